@@ -3,7 +3,7 @@
 //! marked X.690 from that standard.
 use crate::assertions::{assert_same, assert_same_of};
 use ldap_ber::{
-    BerFault, BerKind, NoMemory, Octets, OctetsList, Reader, Tlv, Writer, boolean, integer,
+    BerFault, BerKind, NoMemory, Octets, OctetsList, Reader, Tlv, Writer, boolean, discard, integer,
 };
 use std::alloc::Global;
 use std::process::Abort;
@@ -125,14 +125,21 @@ fn octets_both_ways(rt: HostRuntime) -> Result<(), Fail> {
     Ok(())
 }
 
-/// Octet strings: no octet, some that are no text, a URI, and as many octets as a string keeps in
-/// itself at most, and one more.
-const STRINGS: [&[u8]; 5] = [
+/// Octet strings: no octet, some that are no text, a URI, as many octets as a string keeps in
+/// itself at most, and one more; and as many as copies share beside their number at most, in a
+/// smaller and in a larger piece of memory, and one more than each.
+const STRINGS: [&[u8]; 9] = [
     b"",
     b"\0\xff",
     b"ldap://a",
     b"abcdefghijklmnopqrstuvwxyzabcd",
     b"abcdefghijklmnopqrstuvwxyzabcde",
+    b"abcdefghijklmnopqrstuvwxyzabcdefghijklmnopqrstuvwxyzabcdefghijk",
+    b"abcdefghijklmnopqrstuvwxyzabcdefghijklmnopqrstuvwxyzabcdefghijkl",
+    b"abcdefghijklmnopqrstuvwxyzabcdefghijklmnopqrstuvwxyzabcdefghijkl\
+      mnopqrstuvwxyzabcdefghijklmnopqrstuvwxyzabcdefghijklmnopqrstuvw",
+    b"abcdefghijklmnopqrstuvwxyzabcdefghijklmnopqrstuvwxyzabcdefghijkl\
+      mnopqrstuvwxyzabcdefghijklmnopqrstuvwxyzabcdefghijklmnopqrstuvwx",
 ];
 
 #[test]
@@ -141,7 +148,8 @@ fn copies_of_octets(rt: HostRuntime) -> Result<(), Fail> {
     for bytes in &STRINGS {
         list.push(Octets::from_slice(rt.alloc(), bytes)?.copy()?)?;
     }
-    let copies = list.copy()?;
+    let copies = list.copy()?.copy()?;
+    discard(list);
     assert_same(&rt, "strings", &copies.list().len(), &STRINGS.len());
     for (copy, bytes) in copies.list().iter().zip(&STRINGS) {
         assert_same_of(&rt, bytes, &copy.as_slice(), bytes);
@@ -213,6 +221,75 @@ const NESTED: &[u8] = b"\x30\x1c\x0a\x01\x0a\xa3\x14\x04\x08ldap://a\x04\x08ldap
 #[test]
 fn elements_in_elements_are_written(rt: HostRuntime) -> Result<(), Fail> {
     assert_same_of(&rt, NESTED, &nested(rt.alloc())?.as_slice(), &NESTED);
+    Ok(())
+}
+
+fn in_one(alloc: Global, bytes: &[u8]) -> Result<Octets, NoMemory> {
+    let mut writer = Writer::new(alloc);
+    writer.begin(0x30)?;
+    writer.octets(4, bytes)?;
+    writer.end()?;
+    Ok(writer.finish())
+}
+
+fn in_four(alloc: Global, bytes: &[u8]) -> Result<Octets, NoMemory> {
+    let mut writer = Writer::new(alloc);
+    writer.begin(0x30)?;
+    writer.begin(0x30)?;
+    writer.begin(0x30)?;
+    writer.begin(0x30)?;
+    writer.octets(4, bytes)?;
+    writer.end()?;
+    writer.end()?;
+    writer.end()?;
+    writer.end()?;
+    Ok(writer.finish())
+}
+
+/// Lengths of octet strings, and how an element begins that holds such a string alone.
+const LENGTHS_IN_ONE: [(usize, &[u8]); 6] = [
+    (0, b"\x30\x02\x04\0"),
+    (125, b"\x30\x7f\x04\x7d"),
+    (126, b"\x30\x81\x80\x04\x7e"),
+    (253, b"\x30\x82\x01\0\x04\x81\xfd"),
+    (65_531, b"\x30\x82\xff\xff\x04\x82\xff\xfb"),
+    (65_532, b"\x30\x83\x01\0\0\x04\x82\xff\xfc"),
+];
+
+/// The same of an element in three others.
+const LENGTHS_IN_FOUR: [(usize, &[u8]); 4] = [
+    (0, b"\x30\x08\x30\x06\x30\x04\x30\x02\x04\0"),
+    (
+        126,
+        b"\x30\x81\x89\x30\x81\x86\x30\x81\x83\x30\x81\x80\x04\x7e",
+    ),
+    (
+        253,
+        b"\x30\x82\x01\x0c\x30\x82\x01\x08\x30\x82\x01\x04\x30\x82\x01\0\x04\x81\xfd",
+    ),
+    (
+        65_531,
+        b"\x30\x83\x01\0\x0d\x30\x83\x01\0\x08\x30\x83\x01\0\x03\x30\x82\xff\xff\x04\x82\xff\xfb",
+    ),
+];
+
+/// The header and the body of these bytes, which begin so.
+fn check_start(rt: &impl Abort, bytes: &[u8], start: &[u8], body: &[u8]) {
+    assert!(rt; bytes.starts_with(start));
+    assert!(rt; bytes.ends_with(body));
+    assert_same_of(rt, start, &bytes.len(), &(start.len() + body.len()));
+}
+
+#[test]
+fn lengths_of_elements_in_elements(rt: HostRuntime) -> Result<(), Fail> {
+    for (count, start) in &LENGTHS_IN_ONE {
+        let body = vec![in rt.alloc(); 7_u8; *count]?;
+        check_start(&rt, in_one(rt.alloc(), &body)?.as_slice(), start, &body);
+    }
+    for (count, start) in &LENGTHS_IN_FOUR {
+        let body = vec![in rt.alloc(); 7_u8; *count]?;
+        check_start(&rt, in_four(rt.alloc(), &body)?.as_slice(), start, &body);
+    }
     Ok(())
 }
 

@@ -49,6 +49,7 @@ op_said persisting controls (op.ExtendedRequest name value) = refl
 op_said persisting controls (op.ExtendedResponse result name value) = refl
 op_said persisting controls (op.IntermediateResponse name value) = refl
 
+-- what a whole message says to a search is what `sync_wire` decodes it to
 pub message_said : (persisting : Bool) (m : Message) → whole_said persisting (message_value m) ≡ wire.said persisting m
 message_said persisting m = op_said persisting m.controls m.op
 

@@ -59,6 +59,7 @@ said_no_end persisting name raws sync =
 by_entry : (persisting : Bool) (controls : List Control) (name : List ℕ) (raws : List RawAttribute) → says_end_without_cookie (and_then (sync_state controls) (wire.entry_said persisting name raws)) ≡ false
 by_entry persisting controls name raws = then_no_end (sync_state controls) (wire.entry_said persisting name raws) (said_no_end persisting name raws)
 
+-- an entry is no end of a refresh, and so none without a cookie
 pub entry_no_end : (m : Message) (name : List ℕ) (raws : List RawAttribute) → m.op ≡ op.SearchResultEntry name raws → says_end_without_cookie (whole_said false (message_value m)) ≡ false
 entry_no_end m name raws is =
     ap says_end_without_cookie (message_said false m) ∙ ap (λ o. says_end_without_cookie (wire.operation_said false m.controls o)) is ∙ by_entry false m.controls name raws
@@ -87,6 +88,7 @@ op_same_end persisting controls (operation.rename_response parts) = refl
 op_same_end persisting controls (operation.compare_response parts) = refl
 op_same_end persisting controls (operation.extended_response parts) = refl
 
+-- whether a message is an end without a cookie does not depend on the phase of the search
 pub whole_same_end : (persisting : Bool) (whole : MessageValue) → says_end_without_cookie (whole_said persisting whole) ≡ says_end_without_cookie (whole_said false whole)
 whole_same_end persisting whole = op_same_end persisting whole.1.1 whole.1.0
 
@@ -111,6 +113,7 @@ by_decoded : (said : Result SyncMessage DecodeFault) (received : SyncEvent) → 
 by_decoded (Ok message) received is = let same : wire.decoded_of message ≡ received = cc in same_end message ∙ ap (λ (h : SyncEvent). ends_without_cookie (message_of h)) same
 by_decoded (Err found) received is = let never : ⊥ = cc in absurd never
 
+-- a message that is decoded is an end without a cookie exactly where its event is one
 pub decoded_same_end : (m : Message) (received : SyncEvent) → on_ok wire.decoded_of (wire.said false m) ≡ Ok received → says_end_without_cookie (whole_said false (message_value m)) ≡ ends_without_cookie (message_of received)
 decoded_same_end m received is = ap says_end_without_cookie (message_said false m) ∙ by_decoded (wire.said false m) received is
 
@@ -118,6 +121,7 @@ by_failed : (said : Result SyncMessage DecodeFault) (found : DecodeFault) → on
 by_failed (Ok message) found is = let never : ⊥ = cc in absurd never
 by_failed (Err other) found is = refl
 
+-- a message that is refused is no such end
 pub failed_no_end : (m : Message) (found : DecodeFault) → on_ok wire.decoded_of (wire.said false m) ≡ Err found → says_end_without_cookie (whole_said false (message_value m)) ≡ false
 failed_no_end m found is = ap says_end_without_cookie (message_said false m) ∙ by_failed (wire.said false m) found is
 
@@ -125,6 +129,7 @@ failed_no_end m found is = ap says_end_without_cookie (message_said false m) ∙
 pub value_no_end : (m : Message) (found : DecodeFault) → found ≡ decoding.BadValue → DecodeFails found (on_ok wire.decoded_of (wire.said false m)) → says_end_without_cookie (whole_said false (message_value m)) ≡ false
 value_no_end m found is fails = failed_no_end m decoding.BadValue (subst (λ f. DecodeFails f (on_ok wire.decoded_of (wire.said false m))) is fails)
 
+-- nor is one that is refused for its entryUUID
 pub uuid_no_end : (m : Message) (found : DecodeFault) (one other : ℕ) → found ≡ decoding.UuidDiffers one other → DecodeFails found (on_ok wire.decoded_of (wire.said false m)) → says_end_without_cookie (whole_said false (message_value m)) ≡ false
 uuid_no_end m found one other is fails = failed_no_end m (decoding.UuidDiffers one other) (subst (λ f. DecodeFails f (on_ok wire.decoded_of (wire.said false m))) is fails)
 

@@ -26,7 +26,7 @@ abbrev pub EachOwn : List ℕ → List ReportLine → Type 0
 EachOwn name [] = Unit {0}
 EachOwn name (line ∷ lines) = (name_in line ≡ name) × EachOwn name lines
 
--- what each part keeps: who the consumer is and what it wants, but where it is reported to want something else, and the
+-- what each part keeps: who the consumer is and what it wants, but where it is given another specification, and the
 -- provider's writes and where they are from; its link and its copy are what its lines make of them
 pub record Alters (wants : Search → Search) (before after : Agreement) (lines : List ReportLine) : Type 0 where
   pub name : after.consumer_node.name ≡ before.consumer_node.name
@@ -51,9 +51,11 @@ own-append : (name : List ℕ) (ls ms : List ReportLine) → EachOwn name ls →
 own-append name [] ms h k = k
 own-append name (l ∷ ls) ms h k = (h.0, own-append name ls ms h.1 k)
 
+-- what does nothing keeps everything
 pub keeps_nothing : (pair : Agreement) → Keeps pair pair []
 keeps_nothing pair = record { name = refl; source = refl; spec = refl; reload = refl; directory = refl; kind = refl; lineage = refl; own = tt; traced = refl }
 
+-- what keeps all, and then what alters what is wanted, together alter that
 pub keeps_both : {wants : Search → Search} {a b c : Agreement} {ls ms : List ReportLine} → Keeps a b ls → Alters wants b c ms → Alters wants a c (ls ++ ms)
 keeps_both {wants} {a} {b} {c} {ls} {ms} first second = record {
   name = second.name ∙ first.name;

@@ -30,6 +30,7 @@ queue_limit_stays : (p : ProviderState) (search : Option ℕ) → (closed p sear
 queue_limit_stays p None = refl
 queue_limit_stays p (Some number) = refl
 
+-- a provider whose search is closed is of the kind that it was
 pub kind_stays : (p : ProviderState) (search : Option ℕ) → (closed p search).kind ≡ p.kind
 kind_stays p None = refl
 kind_stays p (Some number) = refl

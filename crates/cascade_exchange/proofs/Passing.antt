@@ -136,6 +136,7 @@ over_as pair search message old text after f2 (LaterCookie held given) h = (full
 over_as pair search message old text after f2 Circle h = (full pair search message h.0, h.1)
 over_as pair search message old text after f2 NoMemory h = tt
 
+-- the next message does not fit the link: the sending is refused, and all is as it was
 pub links_over : (lin : Lineage) (p : ProviderState) (f f2 : ConsumerNode) (n number : ℕ) (whole : MessageValue) (old new : Report) (after : Agreement) (cause : Cause) → IsAhead p f.search n false → f.search ≡ Some number → turn_at_place p.searches number n ≡ Hands whole
     → Links f (message_octets whole) old f2 new (Err cause) → SendsOne (passed n false (agreement_of p f lin)) (sending (passed n false (agreement_of p f lin))) old after new (Err cause)
 links_over lin p f f2 n number whole old new after cause ahead at hands h =
@@ -144,6 +145,7 @@ links_over lin p f f2 n number whole old new after cause ahead at hands h =
     subst (λ turn. SendsOne (agreement_of v f lin) (sending_by (agreement_of v f lin) turn) old after new (Err cause)) (sym now)
     (over_as (agreement_of v f lin) f.search (message_octets whole) old new after f2 cause h)
 
+-- the same of the message that ends the search
 pub links_last_over : (lin : Lineage) (p : ProviderState) (f f2 : ConsumerNode) (n number : ℕ) (code : ℤ) (whole : MessageValue) (old new : Report) (after : Agreement) (cause : Cause) → IsAhead p f.search n false → f.search ≡ Some number → turn_at_place p.searches number n ≡ Closes code whole
     → Links f (message_octets whole) old f2 new (Err cause) → SendsOne (passed n false (agreement_of p f lin)) (sending (passed n false (agreement_of p f lin))) old after new (Err cause)
 links_last_over lin p f f2 n number code whole old new after cause ahead at closes h =
@@ -160,12 +162,14 @@ links_none lin p f n number turn text ahead at is rests =
     let v : ProviderState = handed_times n p f.search in
     (ap (sending_by (agreement_of v f lin)) (turn_now p f.search n number ahead at ∙ is) ∙ rests (agreement_of v f lin), refl, refl)
 
+-- without an open search nothing goes into the link
 pub links_no_search : (lin : Lineage) (p : ProviderState) (f : ConsumerNode) (n : ℕ) (text : Report) → f.search ≡ None
     → SendsOne (passed n false (agreement_of p f lin)) (sending (passed n false (agreement_of p f lin))) text (passed n false (agreement_of p f lin)) text (Ok false)
 links_no_search lin p f n text none =
     let v : ProviderState = handed_times n p f.search in
     (ap (λ search. sending_by (agreement_of v f lin) (turn_of v search)) none, refl, refl)
 
+-- nor does anything after the end of a search
 pub links_ended : (lin : Lineage) (p : ProviderState) (f : ConsumerNode) (n : ℕ) (text : Report)
     → SendsOne (passed n true (agreement_of p f lin)) (sending (passed n true (agreement_of p f lin))) text (passed n true (agreement_of p f lin)) text (Ok false)
 links_ended lin p f n text = (refl, refl, refl)
@@ -190,9 +194,11 @@ sent_over whole n p after last old mid text new NoMemory some so h = tt
 
 -- ---- the link
 
+-- a consumer differs from itself in no more than its link
 pub same_links : (f : ConsumerNode) → OnlyLinks f f
 same_links f = refl
 
+-- nor does it with a message more in its link
 pub one_links : (f f2 : ConsumerNode) (message : List ℕ) → f2 ≡ record f { link = f.link ++ message ∷ [] } → OnlyLinks f f2
 one_links f f2 message is = is ∙ ap (λ (g : ConsumerNode). record f { link = g.link }) (sym is)
 

@@ -100,6 +100,7 @@ from_no_more : (p : Agreement) (link : List (List ℕ)) → LeavesNoMore (Left p
 from_no_more p [] = tt
 from_no_more p (message ∷ rest) = as_no_more p rest (received (copy_of p.consumer_node) message).0 (received (copy_of p.consumer_node) message).1
 
+-- after a taking no more is left to send than before it
 pub takes_no_more : (p after : Agreement) (old new : Report) (some : Bool) → TakesOne p (taking p) old after new (Ok some) → left_to_send after after.consumer_node.search ≤ left_to_send p p.consumer_node.search
 takes_no_more p after old new true one = subst (LeavesNoMore (Left p)) one.1 (from_no_more p p.consumer_node.link)
 takes_no_more p after old new false one = subst (λ q. Left q ≤ Left p) (sym one.1) (omega arith)

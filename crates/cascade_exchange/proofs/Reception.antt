@@ -17,7 +17,7 @@ use Rattle.cascade_exchange.specs.Reception.{Came as came}
 use Rattle.cascade_exchange.specs.Naming.{peer_name}
 use Rattle.cascade_report.specs.Origins.{Lineage}
 use Rattle.cascade_report.specs.Report.{Report, said}
-use Rattle.cascade_exchange.specs.Parts.{TakesOne, Received, ReceivedSoFar}
+use Rattle.cascade_exchange.specs.Parts.{TakesOne, IsReceived, IsReceivedSoFar}
 use Rattle.cascade_report.specs.ReportLines.{commit_reported, ReportLine as reported}
 use Rattle.cascade_exchange.proofs.Decoding.{came_reported, received_reported}
 
@@ -34,7 +34,7 @@ of_rest lin p f rest copy (came.Refused fault) = refl
 
 -- the first message of the link is decoded and taken
 pub takes_one : (lin : Lineage) → (p p1 : ProviderState) (f f1 : ConsumerNode) (bytes : List ℕ) (rest : List (List ℕ)) (found : Option MessageValue) (old new : Report) → f.link ≡ bytes ∷ rest → found ≡ decoded bytes
-    → Received (agreement_of p (record f { link = rest }) lin) (received_next f.consumer.copy found) old (agreement_of p1 f1 lin) new (Ok tt) → TakesOne (agreement_of p f lin) (taking (agreement_of p f lin)) old (agreement_of p1 f1 lin) new (Ok true)
+    → IsReceived (agreement_of p (record f { link = rest }) lin) (received_next f.consumer.copy found) old (agreement_of p1 f1 lin) new (Ok tt) → TakesOne (agreement_of p f lin) (taking (agreement_of p f lin)) old (agreement_of p1 f1 lin) new (Ok true)
 takes_one lin p p1 f f1 bytes rest found old new first is h =
     let decode : received (copy_of f) bytes ≡ received_next f.consumer.copy found = ap (received_next f.consumer.copy) (sym is) in
     let came' = received_next f.consumer.copy found in (
@@ -45,25 +45,25 @@ takes_one lin p p1 f f1 bytes rest found old new first is h =
 
 -- bytes that spell no message
 pub garbled : (lin : Lineage) → (p p1 : ProviderState) (f f1 : ConsumerNode) (found : Option MessageValue) (old new : Report) → found ≡ None → agreement_of p1 f1 lin ≡ given_up (agreement_of p f lin) f.consumer.copy
-    → new ≡ said old (reported.Faulted f.name (codes "BadMessage") ∷ []) → Received (agreement_of p f lin) (received_next f.consumer.copy found) old (agreement_of p1 f1 lin) new (Ok tt)
+    → new ≡ said old (reported.Faulted f.name (codes "BadMessage") ∷ []) → IsReceived (agreement_of p f lin) (received_next f.consumer.copy found) old (agreement_of p1 f1 lin) new (Ok tt)
 garbled lin p p1 f f1 found old new none after line =
     let line' = reported.Faulted f.name (codes "BadMessage") in
-    let received' : Received (agreement_of p f lin) (received_next f.consumer.copy None) old (agreement_of p1 f1 lin) new (Ok tt) = (line', ap (λ q. (q, line')) (sym after), line) in
-    subst (λ x. Received (agreement_of p f lin) (received_next f.consumer.copy x) old (agreement_of p1 f1 lin) new (Ok tt)) (sym none) received'
+    let received' : IsReceived (agreement_of p f lin) (received_next f.consumer.copy None) old (agreement_of p1 f1 lin) new (Ok tt) = (line', ap (λ q. (q, line')) (sym after), line) in
+    subst (λ x. IsReceived (agreement_of p f lin) (received_next f.consumer.copy x) old (agreement_of p1 f1 lin) new (Ok tt)) (sym none) received'
 
 -- the end of a refresh without a cookie
 pub refused_end : (lin : Lineage) → (p p1 : ProviderState) (f f1 : ConsumerNode) (m : Message) (old new : Report) → says_end_without_cookie (whole_said false (message_value m)) ≡ true → agreement_of p1 f1 lin ≡ given_up (agreement_of p f lin) f.consumer.copy
-    → new ≡ said old (reported.Faulted f.name (codes "OutOfPlace") ∷ []) → Received (agreement_of p f lin) (received_next f.consumer.copy (Some (message_value m))) old (agreement_of p1 f1 lin) new (Ok tt)
+    → new ≡ said old (reported.Faulted f.name (codes "OutOfPlace") ∷ []) → IsReceived (agreement_of p f lin) (received_next f.consumer.copy (Some (message_value m))) old (agreement_of p1 f1 lin) new (Ok tt)
 refused_end lin p p1 f f1 m old new is after line =
     let line' = reported.Faulted f.name (codes "OutOfPlace") in
-    let received' : Received (agreement_of p f lin) (refused_for f.consumer.copy (codes "OutOfPlace")) old (agreement_of p1 f1 lin) new (Ok tt) = (line', ap (λ q. (q, line')) (sym after), line) in
-    subst (λ b. Received (agreement_of p f lin) (cond b (refused_for f.consumer.copy (codes "OutOfPlace")) (received_of f.consumer.copy (Some (message_value m)))) old (agreement_of p1 f1 lin) new (Ok tt)) (sym is) received'
+    let received' : IsReceived (agreement_of p f lin) (refused_for f.consumer.copy (codes "OutOfPlace")) old (agreement_of p1 f1 lin) new (Ok tt) = (line', ap (λ q. (q, line')) (sym after), line) in
+    subst (λ b. IsReceived (agreement_of p f lin) (cond b (refused_for f.consumer.copy (codes "OutOfPlace")) (received_of f.consumer.copy (Some (message_value m)))) old (agreement_of p1 f1 lin) new (Ok tt)) (sym is) received'
 
 -- and any other message
 pub no_such_end : (lin : Lineage) → (p p1 : ProviderState) (f f1 : ConsumerNode) (m : Message) (old new : Report) (result : Result Bool Cause) → says_end_without_cookie (whole_said false (message_value m)) ≡ false
-    → ReceivedSoFar (agreement_of p f lin) (received_of f.consumer.copy (Some (message_value m))) old (agreement_of p1 f1 lin) new result → ReceivedSoFar (agreement_of p f lin) (received_next f.consumer.copy (Some (message_value m))) old (agreement_of p1 f1 lin) new result
+    → IsReceivedSoFar (agreement_of p f lin) (received_of f.consumer.copy (Some (message_value m))) old (agreement_of p1 f1 lin) new result → IsReceivedSoFar (agreement_of p f lin) (received_next f.consumer.copy (Some (message_value m))) old (agreement_of p1 f1 lin) new result
 no_such_end lin p p1 f f1 m old new result is h =
-    subst (λ b. ReceivedSoFar (agreement_of p f lin) (cond b (refused_for f.consumer.copy (codes "OutOfPlace")) (received_of f.consumer.copy (Some (message_value m)))) old (agreement_of p1 f1 lin) new result) (sym is) h
+    subst (λ b. IsReceivedSoFar (agreement_of p f lin) (cond b (refused_for f.consumer.copy (codes "OutOfPlace")) (received_of f.consumer.copy (Some (message_value m)))) old (agreement_of p1 f1 lin) new result) (sym is) h
 
 -- no message is taken from an empty link
 pub nothing_there : (lin : Lineage) → (p : ProviderState) (f : ConsumerNode) (text : Report) → f.link ≡ [] → TakesOne (agreement_of p f lin) (taking (agreement_of p f lin)) text (agreement_of p f lin) text (Ok false)
@@ -82,7 +82,7 @@ came_as lin p f after m t is =
     ap (λ (x : Copy × Came). taken_as (agreement_of p f lin) f.link x.0 x.1) (received_reported f.consumer.copy m ∙ ap (λ (y : Copy × Taken). (y.0, came_reported y.1)) (sym is))
 
 abbrev Receives : Lineage → ProviderState → ConsumerNode → ConsumerState → Message → Report → Report → Type 0
-Receives lin p f after m old new = Received (agreement_of p f lin) (received_of f.consumer.copy (Some (message_value m))) old (agreement_of p (record f { consumer = after }) lin) new (Ok tt)
+Receives lin p f after m old new = IsReceived (agreement_of p f lin) (received_of f.consumer.copy (Some (message_value m))) old (agreement_of p (record f { consumer = after }) lin) new (Ok tt)
 
 -- a message that was staged gives the line `taken`
 pub receives_staged : (lin : Lineage) → (p : ProviderState) (f : ConsumerNode) (after : ConsumerState) (m : Message) (old new : Report) → after.spec ≡ f.consumer.spec → after.reload ≡ f.consumer.reload
@@ -124,7 +124,7 @@ receives_over lin p f after m code old new spec reload is line = (
 -- a message that is refused gives the line `fault`
 pub receives_fault : (lin : Lineage) → (p p1 : ProviderState) (f f1 : ConsumerNode) (after : ConsumerState) (m : Message) (fault : _) (old new : Report) → after.spec ≡ f.consumer.spec → after.reload ≡ f.consumer.reload
     → (after.copy, taken.Fault fault) ≡ taken_of f.consumer.copy m → agreement_of p1 f1 lin ≡ given_up (agreement_of p (record f { consumer = after }) lin) after.copy
-    → new ≡ said old (reported.Faulted f.name (peer_name fault) ∷ []) → Received (agreement_of p f lin) (received_of f.consumer.copy (Some (message_value m))) old (agreement_of p1 f1 lin) new (Ok tt)
+    → new ≡ said old (reported.Faulted f.name (peer_name fault) ∷ []) → IsReceived (agreement_of p f lin) (received_of f.consumer.copy (Some (message_value m))) old (agreement_of p1 f1 lin) new (Ok tt)
 receives_fault lin p p1 f f1 after m fault old new spec reload is up line = (
   reported.Faulted f.name (peer_name fault),
   came_as lin p f after m (taken.Fault fault) is

@@ -9,7 +9,7 @@ use Rattle.cascade_script.specs.declared.fault.Cause.TheVariants.{NoMemory}
 use Rattle.cascade_exchange.specs.Exchange.{Agreement, ExchangeOutcome, agreement_of, after_lines, closed, copy_of, emptied, given_up, taking, takes}
 use Rattle.cascade_exchange.specs.Going.{GoesOn}
 use Rattle.cascade_exchange.specs.Reception.{decoded, received_next}
-use Rattle.cascade_exchange.specs.Parts.{Does, TakesOne, left_by, ReceivedSoFar, TakesNext, TakesStep}
+use Rattle.cascade_exchange.specs.Parts.{Does, TakesOne, left_by, IsReceivedSoFar, TakesNext, TakesStep}
 use Rattle.cascade_report.specs.Origins.{Lineage}
 use Rattle.cascade_report.specs.Report.{Report, said}
 use Rattle.cascade_report.specs.ReportLines.{ReportLine}
@@ -24,6 +24,7 @@ use Rattle.cascade_exchange.proofs.Reception.{takes_one}
 pub starves : (outcome : ExchangeOutcome) (after : Agreement) (old new : Report) (cause : Cause) → cause ≡ NoMemory → Does outcome old after new (Err cause)
 starves outcome after old new cause is = subst (λ c. Does outcome old after new (Err c)) (sym is) tt
 
+-- out of memory a taking may end as it does
 pub one_starves : (p after : Agreement) (found : Option (Agreement × ReportLine)) (old new : Report) (cause : Cause) → cause ≡ NoMemory → TakesOne p found old after new (Err cause)
 one_starves p after found old new cause is = subst (λ c. TakesOne p found old after new (Err c)) (sym is) tt
 
@@ -42,7 +43,7 @@ next_some p after found old new answer goes_on so is same next =
 
 -- the first message of the link is decoded and taken
 pub takes_so_far : (lin : Lineage) (p : ProviderState) (f f1 : ConsumerNode) (bytes : List ℕ) (rest : List (List ℕ)) (found : Option MessageValue) (old new : Report) (goes_on : Bool) → f.link ≡ bytes ∷ rest → found ≡ decoded bytes
-    → ReceivedSoFar (agreement_of p (record f { link = rest }) lin) (received_next f.consumer.copy found) old (agreement_of p f1 lin) new (Ok goes_on)
+    → IsReceivedSoFar (agreement_of p (record f { link = rest }) lin) (received_next f.consumer.copy found) old (agreement_of p f1 lin) new (Ok goes_on)
     → TakesNext (agreement_of p f lin) (taking (agreement_of p f lin)) old (agreement_of p f1 lin) new (Ok (Some goes_on))
 takes_so_far lin p f f1 bytes rest found old new true first is h = takes_one lin p p f f1 bytes rest found old new first is h
 takes_so_far lin p f f1 bytes rest found old new false first is h = takes_one lin p (closed p f1.search) f (emptied f1 (copy_of f1)) bytes rest found old new first is h

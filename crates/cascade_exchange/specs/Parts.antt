@@ -161,14 +161,14 @@ Links before message old after new (Err cause) =
 
 -- the same of what the consumer makes of a message that was taken from the link and decoded, or
 -- of bytes that spell none
-abbrev pub Received :
+abbrev pub IsReceived :
     Agreement → Copy × Came → Report → Agreement → Report → Result (Unit {0}) Cause → Type 0
-Received before received old after new (Ok done) =
+IsReceived before received old after new (Ok done) =
     (line : ReportLine)
     × (taken_as before before.consumer_node.link received.0 received.1 ≡ (after, line))
     × (new ≡ said old (line ∷ []))
-Received before received old after new (Err NoMemory) = Unit {0}
-Received before received old after new (Err cause) = ⊥
+IsReceived before received old after new (Err NoMemory) = Unit {0}
+IsReceived before received old after new (Err cause) = ⊥
 
 -- ---- a search that is to be given up yet
 
@@ -178,11 +178,11 @@ left_by true pair = pair
 left_by false pair = given_up pair (copy_of pair.consumer_node)
 
 -- the same, which answers whether the search goes on
-abbrev pub ReceivedSoFar :
+abbrev pub IsReceivedSoFar :
     Agreement → Copy × Came → Report → Agreement → Report → Result Bool Cause → Type 0
-ReceivedSoFar before received old after new (Ok goes_on) =
-    Received before received old (left_by goes_on after) new (Ok tt)
-ReceivedSoFar before received old after new (Err cause) = cause ≡ NoMemory
+IsReceivedSoFar before received old after new (Ok goes_on) =
+    IsReceived before received old (left_by goes_on after) new (Ok tt)
+IsReceivedSoFar before received old after new (Err cause) = cause ≡ NoMemory
 
 -- the same of the taking of one message, where the link held one
 abbrev pub TakesNext :

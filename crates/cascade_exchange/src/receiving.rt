@@ -6,7 +6,7 @@ ghost use Rattle.cascade_exchange.specs.Reception as decoding;
 ghost use Rattle.cascade_exchange.specs.Exchange.{agreement_of};
 ghost use Rattle.sync_consumer.specs.Taking.{AreFit};
 ghost use Rattle.cascade_exchange.specs.Parts.{IsKeptIfAny, Does, IsUntouched, KeepsOthers, TakesOne};
-ghost use Rattle.cascade_exchange.specs.Parts.{ReceivedSoFar, TakesNext, TakesSoFar, TakesStep};
+ghost use Rattle.cascade_exchange.specs.Parts.{IsReceivedSoFar, TakesNext, TakesSoFar, TakesStep};
 ghost use Rattle.cascade_report.specs.Report.{said};
 ghost use Rattle.cascade_report.specs.ReportLines.{commit_reported, ReportLine as reported};
 
@@ -169,7 +169,7 @@ fn take_first(
     found: Option<Message>,
     out: &mut Report,
 ) -> Result<bool, Cause>
-    ensures does { ReceivedSoFar
+    ensures does { IsReceivedSoFar
         (agreement_of provider.now
         (record consumer_node.old { link = drop 1 consumer_node.old.link }) out.old.lineage)
         (decoding.received_next consumer_node.old.consumer.copy (option_map message_value found))
@@ -206,7 +206,7 @@ fn take_found(
     found: Option<Message>,
     out: &mut Report,
 ) -> Result<bool, Cause>
-    ensures does { ReceivedSoFar (agreement_of provider.now consumer_node.old out.old.lineage)
+    ensures does { IsReceivedSoFar (agreement_of provider.now consumer_node.old out.old.lineage)
         (decoding.received_next consumer_node.old.consumer.copy (option_map message_value found))
         out.old (agreement_of provider.now consumer_node.new out.old.lineage) out.new result }
     ensures search { consumer_node.new.search ≡ consumer_node.old.search }
@@ -234,7 +234,7 @@ fn take_message(
     message: &Message,
     out: &mut Report,
 ) -> Result<bool, Cause>
-    ensures does { ReceivedSoFar (agreement_of provider.now consumer_node.old out.old.lineage)
+    ensures does { IsReceivedSoFar (agreement_of provider.now consumer_node.old out.old.lineage)
         (decoding.received_next consumer_node.old.consumer.copy (Some (message_value message.now)))
         out.old (agreement_of provider.now consumer_node.new out.old.lineage) out.new result }
     ensures search { consumer_node.new.search ≡ consumer_node.old.search }
@@ -254,7 +254,7 @@ fn hand_to_consumer(
     message: &Message,
     out: &mut Report,
 ) -> Result<bool, Cause>
-    ensures does { ReceivedSoFar (agreement_of provider.now consumer_node.old out.old.lineage)
+    ensures does { IsReceivedSoFar (agreement_of provider.now consumer_node.old out.old.lineage)
         (decoding.received_of consumer_node.old.consumer.copy (Some (message_value message.now)))
         out.old (agreement_of provider.now consumer_node.new out.old.lineage) out.new result }
     ensures search { consumer_node.new.search ≡ consumer_node.old.search }

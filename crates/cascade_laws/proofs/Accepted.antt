@@ -9,14 +9,17 @@ use Rattle.cascade_laws.specs.Headline.{time_after, time_from, with_accepted, ac
 use Rattle.cascade_script.specs.Orders.{Order}
 use Rattle.cascade_script.specs.Orders.{Order as asks}
 
+-- the time after one order more
 pub time_from-push : (time : ℕ) (orders : List Order) (order : Order) → time_from time (orders ++ order ∷ []) ≡ time_after (time_from time orders) order
 time_from-push time [] order = refl
 time_from-push time (o ∷ orders) order = time_from-push (time_after time o) orders order
 
+-- the time after some orders, and then others
 pub time_from-append : (time : ℕ) (orders more : List Order) → time_from time (orders ++ more) ≡ time_from (time_from time orders) more
 time_from-append time [] more = refl
 time_from-append time (o ∷ orders) more = time_from-append (time_after time o) orders more
 
+-- the writes that a root has accepted after one order more
 pub accepted_from-push : (history : ℕ) (suffix : List (List TypeAndValue)) (name : List ℕ) (time : ℕ) (writes : List Write) (orders : List Order) (order : Order)
     → accepted_from history suffix name time writes (orders ++ order ∷ [])
     ≡ with_accepted history suffix name (time_from time orders) (accepted_from history suffix name time writes orders) order
@@ -29,6 +32,7 @@ abbrev pub Untouched : Order → List ℕ → Type 0
 Untouched (asks.Write target change) name = bytes_eq target name ≡ false
 Untouched _ name = Unit {0}
 
+-- an order that is no write to a root leaves its writes
 pub with_accepted-untouched : (history : ℕ) (suffix : List (List TypeAndValue)) (name : List ℕ) (time : ℕ) (writes : List Write) (order : Order)
     → Untouched order name → with_accepted history suffix name time writes order ≡ writes
 with_accepted-untouched history suffix name time writes (asks.Provider other base) h = refl

@@ -72,7 +72,7 @@ module _ (before : List Order) (name : List ℕ) where
       let of = right.2 in
       let none : (known_of node (said ++ reported.Refused name false E_SYNC_REFRESH_REQUIRED ∷ [])).cookie ≡ None =
       ap (λ n. (known_of n (said ++ reported.Refused name false E_SYNC_REFRESH_REQUIRED ∷ [])).cookie) same ∙ refusal_takes name said in
-      absurd (subst (IsUnserved of.reload of.history of.writes) none of.says)
+      absurd (subst (IsUnserved of.follows.reload of.follows.history of.follows.writes) none of.says)
   then_opens said (reported.Wrote node code writes) answers right = absurd answers
   then_opens said (reported.Sent node message) answers right = absurd answers
   then_opens said (reported.Taken node) answers right = absurd answers
@@ -130,6 +130,7 @@ module _ (before : List Order) (name : List ℕ) where
   again_right said lines (inl none) right = inl none
   again_right said lines (inr is) right = inr (refreshing_right said lines is right)
 
+  -- the lines of a settling, each of them right, are a settling as the headline has it
   pub settling_right : (said lines : List ReportLine) → HasSettled name lines → EachReportsRight before Settle said lines → IsSettling name lines
   settling_right said lines is right = record {
     taken = is.taken;

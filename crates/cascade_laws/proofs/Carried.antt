@@ -63,6 +63,7 @@ end_decoded deletes cookie = decoded_again (wire.sent 1 (end_with deletes cookie
 busy_decoded : IsDecoded (Done (pos BUSY) None)
 busy_decoded = decoded_again (wire.sent 1 (Done (pos BUSY) None)) (omega arith, tt) (omega arith) busy_size
 
+-- the octets of a message of a search are decoded as what it was sent for
 pub sent_decoded : (m : SyncMessage) → IsOfSearch m → IsDecoded m
 sent_decoded m is =
     of_each IsDecoded (record { puts = put_decoded; gones = gone_decoded; sets = set_decoded; phases = phase_decoded; ends = end_decoded; busy = busy_decoded }) m is
@@ -115,11 +116,13 @@ module _ (persisting : Bool) where
       let held : Message = record { id = 1; op = SearchResultDone (wire.result_of (pos BUSY)); controls = [] } in
       sent_round_trip persisting 1 (Done (pos BUSY) None) held tt (ap (λ op. (1, (op, []))) (done_operation (wire.result_of (pos BUSY))))
 
+  -- and so they are by a search in either phase
   pub sent_said : (m : SyncMessage) → IsOfSearch m → IsSaid m
   sent_said m is = of_each IsSaid (record { puts = put_said; gones = gone_said; sets = set_said; phases = phase_said; ends = end_said; busy = busy_said }) m is
 
 -- ---- what the consumer makes of it
 
+-- a consumer makes of these octets what its copy makes of the message
 pub received_sent : (copy : Copy) (session : SyncSession) (m : SyncMessage) → copy.session ≡ Some session → session.id ≡ 1 → IsOfSearch m → ends_without_cookie m ≡ false
     → received copy (message_octets (wire.sent 1 m)) ≡ ((taken_within 1 copy m).0, came_of (taken_within 1 copy m).1)
 received_sent copy session m runs same is cookied =

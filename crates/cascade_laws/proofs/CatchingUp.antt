@@ -23,13 +23,13 @@ use Rattle.sync_provider.specs.HandingOut.{HandOut, turn_of_pending, turn_of_fou
 use Rattle.sync_provider.specs.HandingOut.HandOut.{Hands, Closes, Waits, Unknown}
 use Rattle.sync_provider.specs.Law.{Delivers}
 use Rattle.sync_provider.specs.Machine.{ProviderState}
-use Rattle.sync_provider.specs.Search.{SearchState, pending}
+use Rattle.sync_provider.specs.Search.{SearchState, busy_end, pending}
 use Rattle.sync_provider.proofs.Advanced.{IsIdle, never_idle}
 use Rattle.sync_provider.proofs.Whereabouts.{InRefresh, AtWhole, InGroup}
 use Rattle.cascade_nodes.specs.declared.node.ConsumerNode.{ConsumerNode}
 use Rattle.cascade_nodes.proofs.Fed.{HasRoom, HasPending, IsAtRest}
 use Rattle.cascade_world.specs.Exchange.{Agreement, agreement_of, ExchangeOutcome, after_lines, and_then, copy_of, name_of, Sending, Sends, Rests, Overflows, turn_of, handed, linked, fits, sending_by, sending, taking, taken_as, taken_from, taken_before, taken_some, pending_count, left_to_send, ran_before, ran_some, runs, drains, follows_on, opens_anew, refreshes, catches_up, settled_reported}
-use Rattle.cascade_laws.specs.Headline.{Opening, Known, with_sent, known_after, session_over, sent_octets, busy}
+use Rattle.cascade_laws.specs.Headline.{ReportedOpening, Known, with_sent, known_after, session_over, sent_octets}
 use Rattle.cascade_world.specs.Reception.{Came, received}
 use Rattle.cascade_world.specs.Reception.{Came as came}
 use Rattle.cascade_world.specs.Origins.{Lineage}
@@ -70,7 +70,7 @@ pending_counted : (lin : Lineage) (p : ProviderState) (f : ConsumerNode) (mode c
 pending_counted lin p f mode cut None messages has = ap length (sym has.0)
 pending_counted lin p f mode cut (Some at) messages has = ap pending_count has.found ∙ ap length has.same
 
-module _ (lin : Lineage) (number : ℕ) (p : ProviderState) (f : ConsumerNode) (opening : Opening) (entries : List Entry) (goes : GoesOn number p f opening entries) (drained : IsDrained (agreement_of p f lin)) where
+module _ (lin : Lineage) (number : ℕ) (p : ProviderState) (f : ConsumerNode) (opening : ReportedOpening) (entries : List Entry) (goes : GoesOn number p f opening entries) (drained : IsDrained (agreement_of p f lin)) where
   no_link : goes.session.linked ≡ []
   no_link = map_none goes.session.linked (sym goes.link ∙ drained.link)
 
@@ -84,7 +84,7 @@ module _ (lin : Lineage) (number : ℕ) (p : ProviderState) (f : ConsumerNode) (
   pub all_taken : (goes.session.cut ≡ false) × (goes.session.ahead ≡ [])
   all_taken = by goes.session.cut refl (subst (λ ms. Delivers goes.session.cut ms goes.session.ahead) nothing_left goes.session.left)
     where
-      filled : (prefix : List SyncMessage) → [] ≡ prefix ++ busy ∷ [] → ⊥
+      filled : (prefix : List SyncMessage) → [] ≡ prefix ++ busy_end ∷ [] → ⊥
       filled [] same = cc
       filled (m ∷ prefix) same = cc
 
@@ -94,7 +94,7 @@ module _ (lin : Lineage) (number : ℕ) (p : ProviderState) (f : ConsumerNode) (
 
 -- ---- a consumer whose search goes on, and has nothing left, is up to its provider
 
-module _ (lin : Lineage) (number : ℕ) (suffix : Name) (p : ProviderState) (f : ConsumerNode) (opening : Opening) (entries : List Entry) (source : IsSource number suffix p) (goes : GoesOn number p f opening entries)
+module _ (lin : Lineage) (number : ℕ) (suffix : Name) (p : ProviderState) (f : ConsumerNode) (opening : ReportedOpening) (entries : List Entry) (source : IsSource number suffix p) (goes : GoesOn number p f opening entries)
     (drained : IsDrained (agreement_of p f lin)) where
   abbrev writes : List Write
   writes = p.directory.writes
@@ -125,6 +125,7 @@ module _ (lin : Lineage) (number : ℕ) (suffix : Name) (p : ProviderState) (f :
       (λ n. (source.good n).sent) (cookies_are_texts number f.consumer.spec writes opening) opening.writes goes.session.count entries f.consumer.copy
       (subst (InGroup operation opening.writes goes.session.count entries f.consumer.copy) none_ahead is)
 
+  -- its entries are what it wants of all of the provider's writes
   pub up_to_date : entries ≡ all_content number p f
   up_to_date = by goes.place
     where
@@ -250,7 +251,7 @@ drains_drained pair =
 -- ---- a search that ends with its refresh, and was opened after all writes, runs to its end
 
 pub record Catches (number : ℕ) (p : ProviderState) (f : ConsumerNode) (known : Known) : Type 0 where
-  pub opening : Opening
+  pub opening : ReportedOpening
   pub latest : known.opening ≡ Some opening
   pub all : opening.writes ≡ length p.directory.writes
   pub ends : opening.persists ≡ false
@@ -424,6 +425,7 @@ up_already number suffix pair known source fed drained follows = (kept-still num
     by (inl rest) = absurd (false≢true (ap (λ own. is_some own && is_persisting (copy_of pair.consumer_node).session) (sym rest.search) ∙ follows))
     by (inr going) = up_to_date pair.lineage number suffix pair.provider pair.consumer_node going.opening known.entries source going.goes drained
 
+-- so it is after a new search where none goes on, which is sent and taken to its end
 pub catches_up_ups : (number : ℕ) (suffix : Name) (pair : Agreement) (known : Known) → IsSource number suffix pair.provider → IsFed number pair.provider pair.consumer_node known → HasRoom pair.provider pair.consumer_node
     → IsDrained pair → UpIn number suffix pair known (catches_up pair)
 catches_up_ups number suffix pair known source fed room drained = by (follows_on pair) refl

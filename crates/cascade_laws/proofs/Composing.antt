@@ -40,11 +40,13 @@ promises-then number search next name other known lines more same alike first th
     now : Known
     now = known_by_lines other (known_by_lines name known lines) more
 
+-- what is known and stays promises what it did
 pub promises-still : (number : ℕ) (search : Search) (known : Known) → KeepsPromises number search known known
 promises-still number search known other writes least most far promised = promised
 
 -- ---- one part after another
 
+-- what one part and then another keeps, both keep together
 pub kept-then : (number : ℕ) (suffix : List (List TypeAndValue)) (one two three : Agreement) (lines more : List ReportLine) (known : Known)
     → IsKept number suffix one two lines known → IsKept number suffix two three more (known_by_lines one.consumer_node.name known lines)
     → IsKept number suffix one three (lines ++ more) known
@@ -97,18 +99,21 @@ Keeps number suffix part =
     (pair : Agreement) (known : Known) → IsSource number suffix pair.provider → IsFed number pair.provider pair.consumer_node known → HasRoom pair.provider pair.consumer_node
     → IsKeptIn number suffix pair known (part pair)
 
+-- lines that were reported before a part stand before its own
 pub kept-lines : (number : ℕ) (suffix : List (List TypeAndValue)) (one two : Agreement) (lines : List ReportLine) (known : Known) (outcome : ExchangeOutcome)
     → IsKept number suffix one two lines known → IsKeptIn number suffix two (known_by_lines one.consumer_node.name known lines) outcome
     → IsKeptIn number suffix one known (after_lines lines outcome)
 kept-lines number suffix one two lines known (Ok next) first then = kept-then number suffix one two next.0 lines next.1 known first then
 kept-lines number suffix one two lines known (Err cause) first then = tt
 
+-- what is kept up to a part is kept after it
 pub kept-part : (number : ℕ) (suffix : List (List TypeAndValue)) (one two : Agreement) (lines : List ReportLine) (known : Known) (part : Agreement → ExchangeOutcome)
     → IsKept number suffix one two lines known → HasRoom one.provider one.consumer_node → Keeps number suffix part → IsKeptIn number suffix one known (after_lines lines (part two))
 kept-part number suffix one two lines known part first room keeps =
     kept-lines number suffix one two lines known (part two) first
     (keeps two (known_by_lines one.consumer_node.name known lines) first.source first.fed (room_after one two first.owns room))
 
+-- two parts that keep what each keeps do so one after the other
 pub keeps-then : (number : ℕ) (suffix : List (List TypeAndValue)) (first next : Agreement → ExchangeOutcome) → Keeps number suffix first → Keeps number suffix next
     → Keeps number suffix (λ pair. and_then (first pair) next)
 keeps-then number suffix first next one two pair known source fed room = by (first pair) (one pair known source fed room)
@@ -117,6 +122,7 @@ keeps-then number suffix first next one two pair known source fed room = by (fir
     by (Ok after) kept = kept-part number suffix pair after.0 after.1 known next kept room two
     by (Err cause) kept = tt
 
+-- where nothing is done, everything is kept
 pub kept-still : (number : ℕ) (suffix : List (List TypeAndValue)) (pair : Agreement) (known : Known)
     → IsSource number suffix pair.provider → IsFed number pair.provider pair.consumer_node known → IsKept number suffix pair pair [] known
 kept-still number suffix pair known source fed = record {
@@ -133,6 +139,7 @@ kept-still number suffix pair known source fed = record {
 abbrev pub IsStill : ReportLine → Type 0
 IsStill line = (name : List ℕ) (known : Known) → known_after name known line ≡ known
 
+-- a line that leaves what is known may stand after what was kept
 pub kept-reported : (number : ℕ) (suffix : List (List TypeAndValue)) (one two : Agreement) (line : ReportLine) (known : Known) → IsStill line
     → LineIsRightOf number (frame_of one) known line
     → IsKept number suffix one two [] known → IsKept number suffix one two (line ∷ []) known

@@ -61,15 +61,18 @@ module _ (fresh_is : FreshIsSource) (state : WorldState) (kind : Kind) (name : L
   abbrev pub more : List ProviderNode
   more = state.provider_nodes ++ added ∷ []
 
+  -- the new provider stands under its name, and all others as before
   pub pushed : IsChanged (provider_nodes_by state.provider_nodes) (provider_nodes_by more) name added
   pushed = provider_node_pushed state.provider_nodes added new.provider_node
 
+  -- with it each provider is a source
   pub sources_pushed : AreSources state.provider_nodes → AreSources more
   sources_pushed is =
       let first : 1 ≤ state.nodes + 1 = omega arith in
       let small : state.nodes + 1 ≤ 16 = omega (arith, room) in
       sources_changed state.provider_nodes more name added pushed (fresh_is (state.nodes + 1) suffix kind first small) is
 
+  -- and each has a number of its own
   pub numbered_pushed : AreNumbered state.nodes state.provider_nodes → AreNumbered (state.nodes + 1) more
   numbered_pushed is = record {
     within =
@@ -94,9 +97,11 @@ module _ (fresh_is : FreshIsSource) (state : WorldState) (kind : Kind) (name : L
       by n m r s same (inr was) (inl here) = absurd (below n r s was.1 here.1 same)
       by n m r s same (inr was) (inr was') = is.apart n m r s was.1 was'.1 same
 
+  -- each of the others is what it was
   pub become_pushed : AllBecome (provider_nodes_by state.provider_nodes) (provider_nodes_by more)
   become_pushed n r e = record { now = r; there = find-more (is_provider_node n) state.provider_nodes added r e; grows = grows_itself r }
 
+  -- a consumer among n nodes is one among n + 1
   pub consumer_node_grown : (said : List ReportLine) (f : ConsumerNode) → IsConsumerNode said state.nodes state.provider_nodes f → IsConsumerNode said (state.nodes + 1) more f
   consumer_node_grown said f is = record {
     provider_node = is.provider_node;
@@ -136,6 +141,7 @@ module _ (rest_is : RestIsFed) (said : List ReportLine) (state : WorldState) (na
   abbrev pub comers : List ConsumerNode
   comers = state.consumer_nodes ++ comer ∷ []
 
+  -- the new consumer stands under its name, and all others as before
   pub came : IsChanged (consumer_nodes_by state.consumer_nodes) (consumer_nodes_by comers) name comer
   came = consumer_node_pushed state.consumer_nodes comer new.consumer_node
 
@@ -155,6 +161,7 @@ module _ (rest_is : RestIsFed) (said : List ReportLine) (state : WorldState) (na
         undeclared = λ number' above low. subst (Promises number' search []) (sym nothing) tt;
       }
 
+  -- with it each consumer is fed by its provider
   pub consumer_nodes_came : (nodes : ℕ) (provider_nodes : List ProviderNode) → provider_nodes_by provider_nodes source ≡ Some r → AreConsumerNodes said nodes provider_nodes state.consumer_nodes → AreConsumerNodes said nodes provider_nodes comers
   consumer_nodes_came nodes provider_nodes there is n g found =
       elim (found_after (consumer_nodes_by state.consumer_nodes) (consumer_nodes_by comers) name comer came n g found) [
@@ -185,6 +192,7 @@ module _ (rest_is : RestIsFed) (said : List ReportLine) (state : WorldState) (na
       let f = feeds.consumer_nodes n is.consumer_node is.there in
       (other_provider_node state name n s new there, above_avoids feeds path next top f.provider_node (ap (provider_nodes_by state.provider_nodes) (sym is.source) ∙ f.there) c.1)
 
+  -- from each consumer the providers still lead up to a root
   pub climbs_came : Feeds said state → AllClimb comers
   climbs_came feeds =
       let way = feeds.climbs source in
@@ -192,6 +200,7 @@ module _ (rest_is : RestIsFed) (said : List ReportLine) (state : WorldState) (na
       (record { here = ap (option_map (λ (h : ConsumerNode). h.source)) came.here; others = λ other miss. ap (option_map (λ (h : ConsumerNode). h.source)) (came.others other miss) }) way.2
       (above_avoids feeds way.0 source way.1 r e way.2) feeds.climbs
 
+  -- there are no more consumers than nodes
   pub counted_came : length state.consumer_nodes ≤ state.nodes → length comers ≤ state.nodes + 1
   counted_came low = let long : length comers ≡ length state.consumer_nodes + 1 = length-append state.consumer_nodes (comer ∷ []) in omega (arith, long, low)
 
@@ -245,6 +254,7 @@ root_tracked fresh_is before said state name suffix new is room = record {
           | inr was ↦ is.feeds.manned n x was.1
         ]
 
+-- what holds of the nodes holds after the declaration of a root
 pub provider_after : FreshIsSource → (before : List Order) (said : List ReportLine) (state : WorldState) (name : List ℕ) (suffix : List (List TypeAndValue)) → Tracks before said state → After before said (asks.Provider name suffix) (declare_root state name suffix)
 provider_after fresh_is before said state name suffix is =
     lookup.root_declared (After before said (asks.Provider name suffix)) (λ cause. tt) state name suffix (λ new room.
@@ -379,6 +389,7 @@ replica_tracked fresh_is rest_is before said state name source search reload r n
 
 -- ---- each with its provider
 
+-- and after that of a consumer
 pub consumer_after : RestIsFed → (before : List Order) (said : List ReportLine) (state : WorldState) (name source : List ℕ) (search : Search) (reload : Bool) → AreReported state said → Tracks before said state
     → After before said (asks.Consumer name source search reload) (declare_consumer_node state name source search (with_consumer state (new_consumer_node name source search reload)))
 consumer_after rest_is before said state name source search reload reported is =
@@ -387,6 +398,7 @@ consumer_after rest_is before said state name source search reload reported is =
     lookup.consumer_declared (After before said order) (λ cause. tt) state name source search after (λ new r e below room.
     (nothing_said (before ++ order ∷ []) said after (consumer_tracked rest_is before said state name source search reload r (is_new state name new) (left_for_new name state said new reported.of_nodes) e below is room), tt))
 
+-- and after that of a replica
 pub replica_after : FreshIsSource → RestIsFed → (before : List Order) (said : List ReportLine) (state : WorldState) (name source : List ℕ) (search : Search) (reload : Bool) → AreReported state said → Tracks before said state
     → After before said (asks.Replica name source search reload) (declare_consumer_node state name source search (with_replica state (new_consumer_node name source search reload)))
 replica_after fresh_is rest_is before said state name source search reload reported is =

@@ -54,6 +54,7 @@ pub record IsDone (number : ℕ) (suffix : List (List TypeAndValue)) (before aft
   pub elsewhere : (other : ℕ) (writes : List Write) → 1 ≤ other → other ≤ 16 → other ≢ number → Promises other before.consumer_node.consumer.spec writes known
       → Promises other after.consumer_node.consumer.spec writes (known_then before known lines)
 
+-- what a part keeps holds of what was done
 pub done_kept : (number : ℕ) (suffix : List (List TypeAndValue)) (before after : Agreement) (lines : List ReportLine) (known : Known) → IsKept number suffix before after lines known → Keeps before after lines → IsDone number suffix before after lines known
 done_kept number suffix before after lines known kept keeps = record {
   source = kept.source;
@@ -77,6 +78,7 @@ respecs_staged number frame known search pair =
       | inr free ↦ rw free (tt, tt)
     ]
 
+-- so does what it keeps where something else is wanted then
 pub done_respecced : (number : ℕ) (suffix : List (List TypeAndValue)) (search : Search) (before after : Agreement) (lines : List ReportLine) (known : Known) → IsRespecced number suffix search before after lines known
     → respecs search before ≡ Ok (after, lines) → IsDone number suffix before after lines known
 done_respecced number suffix search before after lines known is e =
@@ -94,6 +96,7 @@ done_respecced number suffix search before after lines known is e =
 
 -- ---- its lines
 
+-- a line that is right of a consumer sets no clock
 pub no_time : (number : ℕ) (frame : Frame) (known : Known) (line : ReportLine) → LineIsRightOf number frame known line → (time : ℕ) → time_reported time line ≡ time
 no_time number frame known (Wrote name code writes) is time = refl
 no_time number frame known (Opened name persists writes) is time = refl
@@ -110,6 +113,7 @@ no_time number frame known (Holds name cookie) is time = refl
 no_time number frame known (Clocked new) is time = absurd is
 no_time number frame known (Shown name entries) is time = refl
 
+-- nor do some of them
 pub no_times : (number : ℕ) (frame : Frame) (known : Known) (lines : List ReportLine) → LinesAreRightOf number frame known lines → (time : ℕ) → fold time_reported time lines ≡ time
 no_times number frame known [] is time = refl
 no_times number frame known (line ∷ lines) is time =
@@ -200,13 +204,15 @@ module _ (lasts : PromisesLast) (wants : Search → Search) (said : List ReportL
   abbrev pub known' : Known
   known' = fold (known_after f.name) (known_of f.name said) lines
 
-  changed : IsChanged (provider_nodes_by state.provider_nodes) (provider_nodes_by next) f.source now
-  changed =
+  -- its provider alone changed
+  pub pair_changed : IsChanged (provider_nodes_by state.provider_nodes) (provider_nodes_by next) f.source now
+  pair_changed =
       subst (λ n. IsChanged (provider_nodes_by state.provider_nodes) (provider_nodes_by (with_provider n after.provider state.provider_nodes)) f.source now) (sym keeps.source)
       (provider_changed state.provider_nodes f.source r after.provider e')
 
-  changed' : IsChanged (consumer_nodes_by state.consumer_nodes) (consumer_nodes_by next') f.name after.consumer_node
-  changed' =
+  -- and its consumer
+  pub pair_followed : IsChanged (consumer_nodes_by state.consumer_nodes) (consumer_nodes_by next') f.name after.consumer_node
+  pair_followed =
       subst (λ n. IsChanged (consumer_nodes_by state.consumer_nodes) (consumer_nodes_by (with_consumer_node n after.consumer_node state.consumer_nodes)) f.name after.consumer_node) (sym keeps.name)
       (consumer_node_changed state.consumer_nodes f.name f after.consumer_node e keeps.name)
 
@@ -223,24 +229,15 @@ module _ (lasts : PromisesLast) (wants : Search → Search) (said : List ReportL
   grows : Grows r now
   grows = record { name = refl; kind = same.kind; history = same.history; suffix = same.suffix; later = []; grown = same.writes ∙ sym (append-nil r.provider.directory.writes) }
 
-  become : AllBecome (provider_nodes_by state.provider_nodes) (provider_nodes_by next)
-  become = become_changed (provider_nodes_by state.provider_nodes) (provider_nodes_by next) f.source r now e' changed grows
+  -- each provider is still there, perhaps with more writes
+  pub pair_becomes : AllBecome (provider_nodes_by state.provider_nodes) (provider_nodes_by next)
+  pair_becomes = become_changed (provider_nodes_by state.provider_nodes) (provider_nodes_by next) f.source r now e' pair_changed grows
 
   been : AllBeen (provider_nodes_by state.provider_nodes) (provider_nodes_by next)
-  been = been_changed (provider_nodes_by state.provider_nodes) (provider_nodes_by next) f.source r now e' changed grows
+  been = been_changed (provider_nodes_by state.provider_nodes) (provider_nodes_by next) f.source r now e' pair_changed grows
 
   then' : known' ≡ known_of after.consumer_node.name (said ++ lines)
   then' = known_done f.name after.consumer_node.name said lines keeps.name
-
-  -- as others see it
-  pub pair_changed : IsChanged (provider_nodes_by state.provider_nodes) (provider_nodes_by next) f.source now
-  pair_changed = changed
-
-  pub pair_becomes : AllBecome (provider_nodes_by state.provider_nodes) (provider_nodes_by next)
-  pair_becomes = become
-
-  pub pair_followed : IsChanged (consumer_nodes_by state.consumer_nodes) (consumer_nodes_by next') f.name after.consumer_node
-  pair_followed = changed'
 
   -- the consumer
   fed' : IsFed now.provider.directory.history after.provider after.consumer_node known'
@@ -248,7 +245,7 @@ module _ (lasts : PromisesLast) (wants : Search → Search) (said : List ReportL
 
   promised' : (n : List ℕ) (s : ProviderNode) → provider_nodes_by next n ≡ Some s → Promises s.provider.directory.history after.consumer_node.consumer.spec s.provider.directory.writes known'
   promised' n s found =
-      elim (found_after (provider_nodes_by state.provider_nodes) (provider_nodes_by next) f.source now changed n s found) [
+      elim (found_after (provider_nodes_by state.provider_nodes) (provider_nodes_by next) f.source now pair_changed n s found) [
         | inl at ↦
             let own : Promises now.provider.directory.history after.consumer_node.consumer.spec now.provider.directory.writes known' =
             subst (λ c. IsPromised now.provider.directory.history after.consumer_node.consumer.spec now.provider.directory.writes known'.entries (held_cookie c)) fed'.cookie fed'.promised in
@@ -269,7 +266,7 @@ module _ (lasts : PromisesLast) (wants : Search → Search) (said : List ReportL
   mine : IsConsumerNode (said ++ lines) state.nodes next after.consumer_node
   mine = record {
     provider_node = now;
-    there = ap (provider_nodes_by next) keeps.source ∙ changed.here;
+    there = ap (provider_nodes_by next) keeps.source ∙ pair_changed.here;
     fed = subst (IsFed now.provider.directory.history after.provider after.consumer_node) then' fed';
     promised = λ n s found. subst (Promises s.provider.directory.history after.consumer_node.consumer.spec s.provider.directory.writes) then' (promised' n s found);
     undeclared = λ number above low. subst (Promises number after.consumer_node.consumer.spec []) then' (undeclared' number above low);
@@ -290,7 +287,7 @@ module _ (lasts : PromisesLast) (wants : Search → Search) (said : List ReportL
             let alike : g.source ≡ f.source = same_bytes g.source f.source hit in
             record {
               provider_node = now;
-              there = ap (provider_nodes_by next) alike ∙ changed.here;
+              there = ap (provider_nodes_by next) alike ∙ pair_changed.here;
               fed = subst (λ n. IsFed n after.provider g (known_of g.name said)) (sym same.history) (other_fed other g there differs alike).0;
               promised = promised;
               undeclared = was.undeclared;
@@ -298,7 +295,7 @@ module _ (lasts : PromisesLast) (wants : Search → Search) (said : List ReportL
         | inr miss ↦
             record {
               provider_node = was.provider_node;
-              there = changed.others g.source miss ∙ was.there;
+              there = pair_changed.others g.source miss ∙ was.there;
               fed = was.fed;
               promised = promised;
               undeclared = was.undeclared;
@@ -307,7 +304,7 @@ module _ (lasts : PromisesLast) (wants : Search → Search) (said : List ReportL
 
   consumer_nodes_done : AreConsumerNodes (said ++ lines) state.nodes next next'
   consumer_nodes_done n g found =
-      elim (found_after (consumer_nodes_by state.consumer_nodes) (consumer_nodes_by next') f.name after.consumer_node changed' n g found) [
+      elim (found_after (consumer_nodes_by state.consumer_nodes) (consumer_nodes_by next') f.name after.consumer_node pair_followed n g found) [
         | inl at ↦ subst (IsConsumerNode (said ++ lines) state.nodes next) at.1 mine
         | inr was ↦
             let differs : bytes_eq f.name g.name ≡ false =
@@ -321,31 +318,32 @@ module _ (lasts : PromisesLast) (wants : Search → Search) (said : List ReportL
         | inl hit ↦
             let alike : n ≡ f.name = same_bytes n f.name hit in
             let was : consumer_nodes_by state.consumer_nodes n ≡ Some f = ap (consumer_nodes_by state.consumer_nodes) alike ∙ e in
-            let new : consumer_nodes_by next' n ≡ Some after.consumer_node = ap (consumer_nodes_by next') alike ∙ changed'.here in
+            let new : consumer_nodes_by next' n ≡ Some after.consumer_node = ap (consumer_nodes_by next') alike ∙ pair_followed.here in
             ap (option_map (λ (g : ConsumerNode). g.source)) new ∙ ap Some keeps.source ∙ sym (ap (option_map (λ (g : ConsumerNode). g.source)) was)
-        | inr miss ↦ ap (option_map (λ (g : ConsumerNode). g.source)) (changed'.others n miss)
+        | inr miss ↦ ap (option_map (λ (g : ConsumerNode). g.source)) (pair_followed.others n miss)
       ]
 
   rooted_done : (n : List ℕ) → AreRooted next (stored_of n (said ++ lines))
   rooted_done n =
       let roots : RootsIn state.provider_nodes r.provider.directory.history (frame_of (agreement_of r.provider f (lineage_of state r))) =
       λ m low. origin_rooted said state f.source r f.consumer.spec m is commits e' low in
-      rooted_grown state.provider_nodes next become (stored_of n (said ++ lines))
+      rooted_grown state.provider_nodes next pair_becomes (stored_of n (said ++ lines))
       (subst (AreRooted state.provider_nodes) (sym (stored_more n said lines))
       (rooted-append state.provider_nodes (stored_of n said) (stored_of n lines) (is.rooted n)
       (lines_rooted state.provider_nodes r.provider.directory.history (frame_of (agreement_of r.provider f (lineage_of state r))) (known_of f.name said) n lines roots done.right)))
 
+  -- each consumer is fed by its provider once this one and its provider are put back into the world
   pub pair_feeds : Feeds (said ++ lines) (with_pair state after)
   pair_feeds = record {
     clock = is.clock ∙ sym (clock_more said lines (no_times r.provider.directory.history (frame_of (agreement_of r.provider f (lineage_of state r))) (known_of f.name said) lines done.right));
     few = is.few;
     counted = omega (arith, length_changed, is.counted);
-    sources = sources_changed state.provider_nodes next f.source now changed (source_now r.provider.directory.history r.provider.directory.suffix after.provider done.source) is.sources;
+    sources = sources_changed state.provider_nodes next f.source now pair_changed (source_now r.provider.directory.history r.provider.directory.suffix after.provider done.source) is.sources;
     numbered = numbered_grown state.nodes state.provider_nodes next been is.numbered;
     consumer_nodes = consumer_nodes_done;
-    apart = apart_done state.consumer_nodes next' f.name f after.consumer_node changed' keeps.source (λ other g there differs alike. (other_fed other g there differs alike).1) is.apart;
-    owned = owned_done state.provider_nodes next state.consumer_nodes next' f.name f r (lineage_of state r) after e e' changed changed' keeps.source done.owns is.owned;
-    manned = manned_grown state.provider_nodes next state.consumer_nodes next' been (found_still (consumer_nodes_by state.consumer_nodes) (consumer_nodes_by next') f.name f after.consumer_node e changed') is.manned;
+    apart = apart_done state.consumer_nodes next' f.name f after.consumer_node pair_followed keeps.source (λ other g there differs alike. (other_fed other g there differs alike).1) is.apart;
+    owned = owned_done state.provider_nodes next state.consumer_nodes next' f.name f r (lineage_of state r) after e e' pair_changed pair_followed keeps.source done.owns is.owned;
+    manned = manned_grown state.provider_nodes next state.consumer_nodes next' been (found_still (consumer_nodes_by state.consumer_nodes) (consumer_nodes_by next') f.name f after.consumer_node e pair_followed) is.manned;
     climbs = all_climb_same state.consumer_nodes next' sources_same is.climbs;
     rooted = rooted_done;
   }
@@ -356,7 +354,7 @@ module _ (lasts : PromisesLast) (wants : Search → Search) (said : List ReportL
   -- but for what the consumer's own directory commits
   pub pair_commits : AreCommittersBut f.name (said ++ lines) next
   pair_commits n s found differs =
-      let b = found_after (provider_nodes_by state.provider_nodes) (provider_nodes_by next) f.source now changed n s found in
+      let b = found_after (provider_nodes_by state.provider_nodes) (provider_nodes_by next) f.source now pair_changed n s found in
       let was : IsCommitter said s = by s b in
       let apart : bytes_eq f.name s.name ≡ false = ap (bytes_eq f.name) (sym (provider_node_name next n s found)) ∙ other_way n f.name differs in
       committer_still said lines s (left_by_other s.name f.name lines apart keeps.own) was

@@ -63,6 +63,7 @@ abbrev pub ThroughIn : List Order → Order → List ReportLine → WorldState �
 ThroughIn before order said state f g (Ok next) = IsThrough before order said next.1 state next.0 f g
 ThroughIn before order said state f g (Err cause) = Unit {0}
 
+-- what was done between a provider and its consumer holds of the world into which both are put back
 pub outcome_through : PartsKnown → (wants : Search → Search) (before : List Order) (order : Order) (said : List ReportLine) (state : WorldState) (f : ConsumerNode) (r : ProviderNode) (after : Agreement) (lines : List ReportLine) → GivenLines order lines
     → consumer_nodes_by state.consumer_nodes f.name ≡ Some f → provider_nodes_by state.provider_nodes f.source ≡ Some r
     → IsDone r.provider.directory.history r.provider.directory.suffix (agreement_of r.provider f (lineage_of state r)) after lines (known_of f.name said) → Alters wants (agreement_of r.provider f (lineage_of state r)) after lines
@@ -233,6 +234,7 @@ outcome_after known parts before order said state f r exchange (Ok next) same ca
       through.right,
     )
 
+-- what holds of the nodes holds after an order for a consumer that wants what it wanted
 pub exchange_after : PartsKnown → PartsAreKept → (before : List Order) (said : List ReportLine) (state : WorldState) (name : List ℕ) (what : Exchange) → WantsTheSame what → Tracks before said state
     → After before said (asked_by name what) (exchange state name (part_of what))
 exchange_after known parts before said state name what same is =

@@ -13,7 +13,7 @@ use Rattle.cascade_nodes.proofs.Fed.{IsAtRest}
 use Rattle.cascade_exchange.proofs.Owns.{owns-still}
 use Rattle.cascade_world.specs.Cookies.{held_cookie, is_later}
 use Rattle.cascade_world.specs.Exchange.{Agreement, ExchangeOutcome, copy_of, with_text, holding, loses_cookie, sets_cookie}
-use Rattle.cascade_laws.specs.Headline.{Opening, Known, known_after, session_over}
+use Rattle.cascade_laws.specs.Headline.{ReportedOpening, Known, known_after, session_over}
 use Rattle.cascade_world.specs.ReportLines.{ReportLine as reported}
 use Rattle.cascade_laws.proofs.Composing.{IsKeptIn, Keeps}
 use Rattle.cascade_laws.proofs.Feeding.{IsSource, KeepsPromises, GoesOn, IsGoing, IsFed}
@@ -27,7 +27,7 @@ Name = List (List TypeAndValue)
 pub own_cookie : (name : List ℕ) (known : Known) (cookie : Option (List ℕ)) → known_after name known (reported.Holds name cookie) ≡ record known { cookie = cookie }
 own_cookie name known cookie = ap (λ same. cond same (record known { cookie = cookie }) known) ((bytes_eq-Decides name name).1 refl)
 
-goes_with : (number : ℕ) (p : ProviderState) (f : ConsumerNode) (opening : Opening) (entries : List Entry) (cookie : Option (List ℕ)) → GoesOn number p f opening entries
+goes_with : (number : ℕ) (p : ProviderState) (f : ConsumerNode) (opening : ReportedOpening) (entries : List Entry) (cookie : Option (List ℕ)) → GoesOn number p f opening entries
     → GoesOn number p (with_text f cookie) opening entries
 goes_with number p f opening entries cookie goes = record {
   session = goes.session;
@@ -67,9 +67,11 @@ holding_kept number suffix pair known cookie source fed promised elsewhere = rec
   elsewhere = subst (KeepsPromises number pair.consumer_node.consumer.spec known) (sym (own_cookie pair.consumer_node.name known cookie)) elsewhere;
 }
 
+-- the loss of a cookie keeps what each part keeps
 pub loses_cookie_keeps : (number : ℕ) (suffix : Name) → Keeps number suffix loses_cookie
 loses_cookie_keeps number suffix pair known source fed room = holding_kept number suffix pair known None source fed tt (λ other writes least most far promised. tt)
 
+-- so does a cookie that is given
 pub sets_cookie_keeps : (text : List ℕ) (number : ℕ) (suffix : Name) → Keeps number suffix (sets_cookie text)
 sets_cookie_keeps text number suffix pair known source fed room = by (is_later (copy_of pair.consumer_node).cookie text) refl
   where

@@ -61,9 +61,11 @@ fed-rest number p q f g known same fed is rest = record {
   state = inl rest;
 }
 
+-- a consumer without a search and with an empty link is at rest
 pub emptied_rests : (f : ConsumerNode) → IsAtRest (emptied f (copy_of f))
 emptied_rests f = record { search = refl; session = refl; link = refl }
 
+-- a search that is given up leaves the consumer at rest, and no line
 pub given_up_kept : (lin : Lineage) (number : ℕ) (suffix : Name) (p : ProviderState) (f : ConsumerNode) (known : Known) → IsSource number suffix p → IsFed number p f known
     → IsKept number suffix (agreement_of p f lin) (given_up (agreement_of p f lin) (copy_of f)) [] known
 given_up_kept lin number suffix p f known source fed = by f.search refl
@@ -98,17 +100,20 @@ given_up_kept lin number suffix p f known source fed = by f.search refl
       elsewhere = promises-still number f.consumer.spec known;
     }
 
+-- a busy consumer is cut, which its line reports
 pub cut_kept : (number : ℕ) (suffix : Name) (pair : Agreement) (known : Known) → IsSource number suffix pair.provider → IsFed number pair.provider pair.consumer_node known
     → IsKept number suffix pair (given_up pair (copy_of pair.consumer_node)) (reported.Cut (name_of pair) ∷ []) known
 cut_kept number suffix pair known source fed =
     kept-reported number suffix pair (given_up pair (copy_of pair.consumer_node)) (reported.Cut (name_of pair)) known (λ name k. refl) tt
     (given_up_kept pair.lineage number suffix pair.provider pair.consumer_node known source fed)
 
+-- of one that is not busy nothing is cut, and the line says so
 pub nothing_kept : (number : ℕ) (suffix : Name) (pair : Agreement) (name : List ℕ) (known : Known) → IsSource number suffix pair.provider → IsFed number pair.provider pair.consumer_node known
     → IsKept number suffix pair pair (reported.Nothing name ∷ []) known
 nothing_kept number suffix pair name known source fed =
     kept-reported number suffix pair pair (reported.Nothing name) known (λ other k. refl) tt (kept-still number suffix pair known source fed)
 
+-- a cut keeps what each part keeps
 pub cut_keeps : (number : ℕ) (suffix : Name) → Keeps number suffix cut
 cut_keeps number suffix pair known source fed room = by (is_busy pair.consumer_node)
   where
@@ -122,6 +127,7 @@ cut_keeps number suffix pair known source fed room = by (is_busy pair.consumer_n
     by true = cut_kept number suffix pair known source fed
     by false = nothing_kept number suffix pair (name_of pair) known source fed
 
+-- so does a cut that comes before another part, where the consumer is busy
 pub idle_keeps : (number : ℕ) (suffix : Name) → Keeps number suffix idle
 idle_keeps number suffix pair known source fed room = by (is_busy pair.consumer_node)
   where
@@ -139,6 +145,7 @@ link_none (x ∷ link) h = by (length (x ∷ link) == 0) refl h
     by true is same = let none : length (x ∷ link) ≡ 0 = eqb-true (length (x ∷ link)) 0 is in absurd (omega (arith, none))
     by false is same = let never : ⊥ = cc in absurd never
 
+-- it has no search and nothing in its link
 pub idle_rests : (f : ConsumerNode) → is_busy f ≡ false → IsAtRest f
 idle_rests f idle =
     let parts = or_parts (is_some f.search || is_some f.consumer.copy.session) (not (length f.link == 0)) idle in

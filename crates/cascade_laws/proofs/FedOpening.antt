@@ -39,7 +39,7 @@ use Rattle.cascade_nodes.proofs.Fed.{HasRoom, IsAtRest, number_free}
 use Rattle.cascade_exchange.proofs.Owns.{room_after, owns-still, owns-opened}
 use Rattle.cascade_world.specs.Cookies.{held_cookie}
 use Rattle.cascade_world.specs.Exchange.{Agreement, ExchangeOutcome, agreement_of, copy_of, with_copy, name_of, is_busy, given_up, after_lines, and_then, idle, asking, request_from, start_of, answer_of, is_required, refused_copy, opened_by, opened_idle, opens, asked_again, opens_anew}
-use Rattle.cascade_laws.specs.Headline.{Opening, Known, known_after, IsServedCookie, IsUnserved, BeginsFrom, session_over, stream_over}
+use Rattle.cascade_laws.specs.Headline.{ReportedOpening, Known, known_after, IsServedCookie, IsUnserved, BeginsFrom, session_over, stream_over}
 use Rattle.cascade_world.specs.Opening.{message_id, answer_to_request, with_opened}
 use Rattle.cascade_world.specs.Origins.{Lineage}
 use Rattle.cascade_world.specs.ReportLines.{ReportLine}
@@ -72,7 +72,7 @@ histories_of number suffix p source = ap (λ (d : DirectoryState). d.history) so
 abbrev with_search : ConsumerNode → Bool → ℕ → ConsumerNode
 with_search f persists at = record (with_copy f (asking persists (copy_of f))) { search = Some at }
 
-abbrev opening_of : Known → Bool → ℕ → Opening
+abbrev opening_of : Known → Bool → ℕ → ReportedOpening
 opening_of known persists count = record { writes = count; persists = persists; cookie = known.cookie; sent = [] }
 
 module _ (lin : Lineage) (number : ℕ) (suffix : Name) (p : ProviderState) (f : ConsumerNode) (known : Known) (persists : Bool) (at count : ℕ) (source : IsSource number suffix p) (fed : IsFed number p f known) (rest : IsAtRest f)
@@ -83,7 +83,7 @@ module _ (lin : Lineage) (number : ℕ) (suffix : Name) (p : ProviderState) (f :
   abbrev start : Start
   start = start_of (agreement_of p f lin)
 
-  abbrev opened : Opening
+  abbrev opened : ReportedOpening
   opened = opening_of known persists count
 
   abbrev operation : SyncOperation
@@ -159,6 +159,7 @@ module _ (lin : Lineage) (number : ℕ) (suffix : Name) (p : ProviderState) (f :
   own_opening : known_after f.name known (reported.Opened f.name persists count) ≡ record known { opening = Some opened }
   own_opening = ap (λ same. cond same (record known { opening = Some opened }) known) ((bytes_eq-Decides f.name f.name).1 refl)
 
+  -- the consumer is fed by it from the provider's writes on, and its line is right
   pub opened_kept : search_at p.searches at ≡ None → IsServedCookie f.consumer.reload number writes known.cookie
       → IsKept number suffix (agreement_of p f lin) (agreement_of after (with_search f persists at) lin) (reported.Opened f.name persists count ∷ []) known
   opened_kept free served = record {
@@ -227,7 +228,7 @@ refused_kept lin number suffix p f known persists code source fed rest required 
 
 -- a search of this mode is open then, which was opened after all writes
 pub record IsOpened (number : ℕ) (p : ProviderState) (f : ConsumerNode) (known : Known) (persists : Bool) : Type 0 where
-  pub opening : Opening
+  pub opening : ReportedOpening
   pub latest : known.opening ≡ Some opening
   pub all : opening.writes ≡ length p.directory.writes
   pub mode : opening.persists ≡ persists
@@ -255,7 +256,7 @@ OpenedIn number suffix pair known persists (Ok next) =
 OpenedIn number suffix pair known persists (Err cause) = ⊥
 
 -- a search that goes on without a message in the link is open
-open_search : (number : ℕ) (p : ProviderState) (f : ConsumerNode) (opening : Opening) (entries : List Entry) → GoesOn number p f opening entries → IsAtRest f → ⊥
+open_search : (number : ℕ) (p : ProviderState) (f : ConsumerNode) (opening : ReportedOpening) (entries : List Entry) → GoesOn number p f opening entries → IsAtRest f → ⊥
 open_search number p f opening entries goes rest = let is = where_session (session_over number f.consumer.spec p.directory.writes opening) goes.session.start opening.writes goes.session.count entries f.consumer.copy goes.session.taken goes.session.ahead goes.place in
     let bad : None ≡ Some is.session = sym rest.session ∙ is.runs in
     let never : ⊥ = cc in
@@ -290,6 +291,7 @@ module _ (lin : Lineage) (number : ℕ) (suffix : Name) (mode : Mode) (p : Provi
         link = rest.link;
       }
 
+  -- its search is opened or refused, and what is kept is kept in both cases
   pub rest_opens : AskedIn number suffix (agreement_of p f lin) known (persists mode) (opened_idle mode (agreement_of p f lin))
   rest_opens = by (answer_of mode (agreement_of p f lin)) refl
     where
@@ -428,6 +430,7 @@ asked_kept : (number : ℕ) (suffix : Name) (pair : Agreement) (known : Known) (
 asked_kept number suffix pair known mode (Ok next) asked = asked.kept
 asked_kept number suffix pair known mode (Err cause) asked = tt
 
+-- an opening keeps what each part keeps
 pub opens_keeps : (mode : Mode) (number : ℕ) (suffix : Name) → Keeps number suffix (opens mode)
 opens_keeps mode number suffix pair known source fed room =
     idle_then number suffix (opened_idle mode) (IsKeptIn number suffix) pair known

@@ -28,7 +28,7 @@ use Rattle.cascade_nodes.specs.declared.node.ConsumerNode.{ConsumerNode}
 use Rattle.cascade_nodes.proofs.Fed.{waits, cut_waits, IsPending, HasPending, IsAtRest, IsAfter, turn_is, handed_out, closed_then}
 use Rattle.cascade_exchange.proofs.Owns.{owns-changed}
 use Rattle.cascade_world.specs.Exchange.{Agreement, agreement_of, Sending, Sends, Rests, Overflows, turn_of, handed, linked, fits, sends, sending_by, sending, name_of}
-use Rattle.cascade_laws.specs.Headline.{Opening, Known, with_sent, known_after, BeginsFrom, session_over, refresh_over, stream_over, sent_octets, busy, Follows, ReportsChange, IsNextOf}
+use Rattle.cascade_laws.specs.Headline.{ReportedOpening, Known, with_sent, known_after, BeginsFrom, session_over, refresh_over, stream_over, sent_octets, Follows, ReportsChange, IsNextOf}
 use Rattle.cascade_world.specs.Opening.{message_id}
 use Rattle.cascade_world.specs.Origins.{Lineage}
 use Rattle.cascade_world.specs.ReportLines.{ReportLine as reported}
@@ -43,10 +43,11 @@ Name = List (List TypeAndValue)
 
 -- ---- the message is in the link then
 
+-- a `sent` line of a consumer adds the message to those of its latest opening
 pub own_sent : (name message : List ℕ) (known : Known) → known_after name known (reported.Sent name message) ≡ record known { opening = option_map (with_sent message) known.opening }
 own_sent name message known = ap (λ same. cond same (record known { opening = option_map (with_sent message) known.opening }) known) ((bytes_eq-Decides name name).1 refl)
 
-sent_goes : (number : ℕ) (p : ProviderState) (searches : Searches) (f : ConsumerNode) (own : Option ℕ) (opening : Opening) (entries : List Entry) (first : SyncMessage) (rest : List SyncMessage)
+sent_goes : (number : ℕ) (p : ProviderState) (searches : Searches) (f : ConsumerNode) (own : Option ℕ) (opening : ReportedOpening) (entries : List Entry) (first : SyncMessage) (rest : List SyncMessage)
     (goes : GoesOn number p f opening entries) → goes.session.pending ≡ first ∷ rest → HasPending searches f.consumer.spec opening.persists goes.session.cut own rest
     → GoesOn number (with_searches p searches) (linked f own (sent_octets first)) (with_sent (sent_octets first) opening) entries
 sent_goes number p searches f own opening entries first rest goes some has = record {
@@ -81,7 +82,7 @@ prefix_within number writes None (Some n) a from is = absurd from
 prefix_within number writes (Some text) None a from is = let never : ⊥ = cc in absurd never
 prefix_within number writes (Some text) (Some n) a from is = let same : n ≡ a = cc in omega (arith, same, from.counted, upto_low writes from.serves.cookie.csn)
 
-module _ (lin : Lineage) (number : ℕ) (suffix : Name) (p : ProviderState) (f : ConsumerNode) (opening : Opening) (entries : List Entry) (goes : GoesOn number p f opening entries) (first : SyncMessage) (rest : List SyncMessage)
+module _ (lin : Lineage) (number : ℕ) (suffix : Name) (p : ProviderState) (f : ConsumerNode) (opening : ReportedOpening) (entries : List Entry) (goes : GoesOn number p f opening entries) (first : SyncMessage) (rest : List SyncMessage)
     (some : goes.session.pending ≡ first ∷ rest) where
   abbrev writes : List Write
   writes = p.directory.writes
@@ -101,18 +102,18 @@ module _ (lin : Lineage) (number : ℕ) (suffix : Name) (p : ProviderState) (f :
   in_place false is left has = inl (rest, place_of goes.session.taken goes.session.linked goes.session.pending rest first Stream some (ap (λ ms. goes.session.taken ++ ms) left ∙ goes.session.whole))
   in_place true is left has = inr (left.left, whole, last, goes.session.lasts is)
     where
-      only : (own : Option ℕ) → HasPending p.searches f.consumer.spec opening.persists true own goes.session.pending → goes.session.pending ≡ busy ∷ []
+      only : (own : Option ℕ) → HasPending p.searches f.consumer.spec opening.persists true own goes.session.pending → goes.session.pending ≡ busy_end ∷ []
       only None has' = let bad : [] ≡ first ∷ rest = sym has'.0 ∙ some in let never : ⊥ = cc in absurd never
       only (Some at) has' = sym has'.same ∙ ap (λ b. cond b (busy_end ∷ []) (has'.search.rest ++ has'.search.due)) has'.over
 
-      one : goes.session.pending ≡ busy ∷ []
+      one : goes.session.pending ≡ busy_end ∷ []
       one = only f.search has
 
-      last : first ≡ busy
-      last = heads first busy rest [] (sym some ∙ one)
+      last : first ≡ busy_end
+      last = heads first busy_end rest [] (sym some ∙ one)
 
       prefixes : goes.session.linked ≡ left.prefix
-      prefixes = (same_from_push goes.session.linked left.prefix busy busy (ap (λ ms. goes.session.linked ++ ms) (sym one) ∙ left.is)).0
+      prefixes = (same_from_push goes.session.linked left.prefix busy_end busy_end (ap (λ ms. goes.session.linked ++ ms) (sym one) ∙ left.is)).0
 
       whole : before ++ left.left ≡ Stream
       whole = append_assoc goes.session.taken goes.session.linked left.left ∙ ap (λ ms. goes.session.taken ++ (ms ++ left.left)) prefixes ∙ ap (λ ms. goes.session.taken ++ ms) left.split ∙ goes.session.whole
@@ -143,10 +144,10 @@ module _ (lin : Lineage) (number : ℕ) (suffix : Name) (p : ProviderState) (f :
   abbrev Reports : ℕ → Type 0
   Reports most = ReportsChange operation (refresh_over number f.consumer.spec writes opening goes.session.start) opening.writes most before first
 
-  changes : length (refresh_over number f.consumer.spec writes opening goes.session.start) ≤ length before → (first ≡ busy) ⊎ Reports (length writes)
+  changes : length (refresh_over number f.consumer.spec writes opening goes.session.start) ≤ length before → (first ≡ busy_end) ⊎ Reports (length writes)
   changes high = by place
     where
-      by : Follows opening.persists Stream before first → (first ≡ busy) ⊎ Reports (length writes)
+      by : Follows opening.persists Stream before first → (first ≡ busy_end) ⊎ Reports (length writes)
       by (inl next) = inr (up (stream_reports operation goes.session.start opening.writes goes.session.count before next.0 first next.1 high))
         where
           up : Reports (opening.writes + goes.session.count) → Reports (length writes)
@@ -277,14 +278,14 @@ module _ (lin : Lineage) (number : ℕ) (suffix : Name) (p : ProviderState) (f :
         comes_last at BUSY is now
         (cut_is None at true closed' (closed_then p.searches f.consumer.spec opening.persists true at (Closes (pos BUSY) (wire.sent message_id first)) rest now refl none (cut_waits opening.persists) source.apart))
       where
-        one : goes.session.pending ≡ busy ∷ []
+        one : goes.session.pending ≡ busy_end ∷ []
         one = sym has.same ∙ ap (λ b. cond b (busy_end ∷ []) (has.search.rest ++ has.search.due)) has.over
 
-        last : first ≡ busy
-        last = heads first busy rest [] (sym some ∙ one)
+        last : first ≡ busy_end
+        last = heads first busy_end rest [] (sym some ∙ one)
 
         none : rest ≡ []
-        none = tails first busy rest [] (sym some ∙ one)
+        none = tails first busy_end rest [] (sym some ∙ one)
 
         now : turn_at p.searches at ≡ Closes (pos BUSY) (wire.sent message_id first)
         now =
@@ -292,17 +293,19 @@ module _ (lin : Lineage) (number : ℕ) (suffix : Name) (p : ProviderState) (f :
             ∙ ap (turn_of_message message_id) last
             ∙ ap (λ m. Closes (pos BUSY) (wire.sent message_id m)) (sym last)
 
+    -- what is handed out next goes into the link, and the consumer is fed as before
     pub pending_kept : (at : ℕ) → f.search ≡ Some at → IsPending p.searches f.consumer.spec opening.persists goes.session.cut at goes.session.pending → IsSentOut (sending_by (agreement_of p f lin) (turn_at p.searches at))
     pending_kept at is has = turn_now at is goes.session.cut refl goes.session.left has
 
 -- what a consumer whose search goes on is sent
-abbrev pub GoingSent : ℕ → Name → Agreement → Known → Opening → Sending → Type 0
+abbrev pub GoingSent : ℕ → Name → Agreement → Known → ReportedOpening → Sending → Type 0
 GoingSent number suffix pair known opening (Sends after message) =
     IsKept number suffix pair after (reported.Sent (name_of pair) message ∷ []) known × GoesOn number after.provider after.consumer_node (with_sent message opening) known.entries
 GoingSent number suffix pair known opening Rests = Unit {0}
 GoingSent number suffix pair known opening Overflows = Unit {0}
 
-pub going_sent : (lin : Lineage) (number : ℕ) (suffix : Name) (p : ProviderState) (f : ConsumerNode) (known : Known) (opening : Opening) → known.opening ≡ Some opening → IsSource number suffix p → IsFed number p f known
+-- so it is of a search that goes on
+pub going_sent : (lin : Lineage) (number : ℕ) (suffix : Name) (p : ProviderState) (f : ConsumerNode) (known : Known) (opening : ReportedOpening) → known.opening ≡ Some opening → IsSource number suffix p → IsFed number p f known
     → GoesOn number p f opening known.entries → GoingSent number suffix (agreement_of p f lin) known opening (sending (agreement_of p f lin))
 going_sent lin number suffix p f known opening latest source fed goes = by f.search refl goes.search
   where
@@ -336,11 +339,12 @@ SendingKept number suffix pair known (Sends after message) = IsKept number suffi
 SendingKept number suffix pair known Rests = Unit {0}
 SendingKept number suffix pair known Overflows = Unit {0}
 
+-- and of any consumer, with a search or without one
 pub sending_kept : (number : ℕ) (suffix : Name) (pair : Agreement) (known : Known) → IsSource number suffix pair.provider → IsFed number pair.provider pair.consumer_node known
     → SendingKept number suffix pair known (sending pair)
 sending_kept number suffix pair known source fed = by fed.state
   where
-    kept : (opening : Opening) (s : Sending) → GoingSent number suffix pair known opening s → SendingKept number suffix pair known s
+    kept : (opening : ReportedOpening) (s : Sending) → GoingSent number suffix pair known opening s → SendingKept number suffix pair known s
     kept opening (Sends after message) is = is.0
     kept opening Rests is = tt
     kept opening Overflows is = tt

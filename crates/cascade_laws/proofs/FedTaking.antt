@@ -36,7 +36,7 @@ use Rattle.sync_wire.specs.CanBeSent.{CanBeSent}
 use Rattle.sync_wire.proofs.OfSearch.{IsOfSearch}
 use Rattle.sync_provider.specs.Law.{Delivers}
 use Rattle.sync_provider.specs.Machine.{ProviderState}
-use Rattle.sync_provider.specs.Search.{cookie_after}
+use Rattle.sync_provider.specs.Search.{busy_end, cookie_after}
 use Rattle.sync_provider.proofs.Coming.{StagesOne, IsOver, StoresOne, TakesOne, one_comes}
 use Rattle.sync_provider.proofs.Whereabouts.{IsPast, IsWhere, HasSession, where_session}
 use Rattle.cascade_nodes.specs.declared.node.ConsumerNode.{ConsumerNode}
@@ -44,7 +44,7 @@ use Rattle.cascade_nodes.proofs.Fed.{waits, cut_waits, IsAtRest, own_over}
 use Rattle.cascade_exchange.proofs.Owns.{owns-still}
 use Rattle.cascade_world.specs.Cookies.{held_cookie}
 use Rattle.cascade_world.specs.Exchange.{Agreement, agreement_of, copy_of, with_copy, number_of_cookie, stored_number, storing, taken_as, taken_from, taking}
-use Rattle.cascade_laws.specs.Headline.{Opening, Known, known_after, NamesPrefix, session_over, stream_over, sent_octets, busy}
+use Rattle.cascade_laws.specs.Headline.{ReportedOpening, Known, known_after, NamesPrefix, session_over, stream_over, sent_octets}
 use Rattle.cascade_world.specs.Reception.{Came, came_of, received, ends_without_cookie}
 use Rattle.cascade_exchange.proofs.EndsWithoutCookie.{ending_answer}
 use Rattle.cascade_world.specs.Origins.{Lineage}
@@ -64,7 +64,7 @@ abbrev cookie_of_number : ℕ → List Write → ℕ → Cookie
 cookie_of_number number writes count = cookie_at number number (last_csn (start number) (take count writes))
 
 -- each cookie of a search is the text of one
-pub cookies_are_texts : (number : ℕ) (spec : Search) (writes : List Write) (opening : Opening) (count : ℕ) → (cookie : Cookie) × ((session_over number spec writes opening).cookies count ≡ cookie_text cookie)
+pub cookies_are_texts : (number : ℕ) (spec : Search) (writes : List Write) (opening : ReportedOpening) (count : ℕ) → (cookie : Cookie) × ((session_over number spec writes opening).cookies count ≡ cookie_text cookie)
 cookies_are_texts number spec writes opening count = (cookie_of_number number writes count, refl)
 
 -- it is read again
@@ -109,6 +109,7 @@ own_stored name known stored =
 
 -- ---- what is left after the first message
 
+-- where no message is in the link or to come, there is none in either
 pub none_left : (link messages : List SyncMessage) → link ++ messages ≡ [] → (link ≡ []) × (messages ≡ [])
 none_left [] messages same = (refl, same)
 none_left (m ∷ link) messages same = let never : ⊥ = cc in absurd never
@@ -121,32 +122,32 @@ record IsFirst (cut : Bool) (ahead : List SyncMessage) (m : SyncMessage) (more :
 
 record IsBusy (cut : Bool) (m : SyncMessage) (more : List SyncMessage) : Type 0 where
   over_is : cut ≡ true
-  message : m ≡ busy
+  message : m ≡ busy_end
   none : more ≡ []
 
 first_left : (cut : Bool) (ahead : List SyncMessage) (m : SyncMessage) (more : List SyncMessage) → Delivers cut (m ∷ more) ahead → IsFirst cut ahead m more ⊎ IsBusy cut m more
 first_left false ahead m more left = inl (record { beyond = more; next = sym left; left = refl })
 first_left true ahead m more left = by left.prefix left.left left.is left.split
   where
-    by : (prefix dropped : List SyncMessage) → m ∷ more ≡ prefix ++ busy ∷ [] → prefix ++ dropped ≡ ahead → IsFirst true ahead m more ⊎ IsBusy true m more
-    by [] dropped one all = inr (record { over_is = refl; message = heads m busy more [] one; none = tails m busy more [] one })
+    by : (prefix dropped : List SyncMessage) → m ∷ more ≡ prefix ++ busy_end ∷ [] → prefix ++ dropped ≡ ahead → IsFirst true ahead m more ⊎ IsBusy true m more
+    by [] dropped one all = inr (record { over_is = refl; message = heads m busy_end more [] one; none = tails m busy_end more [] one })
     by (x ∷ prefix) dropped one all =
         inl (record {
           beyond = prefix ++ dropped;
-          next = sym all ∙ ap (λ y. y ∷ (prefix ++ dropped)) (sym (heads m x more (prefix ++ busy ∷ []) one));
-          left = record { prefix = prefix; left = dropped; split = refl; is = tails m x more (prefix ++ busy ∷ []) one };
+          next = sym all ∙ ap (λ y. y ∷ (prefix ++ dropped)) (sym (heads m x more (prefix ++ busy_end ∷ []) one));
+          left = record { prefix = prefix; left = dropped; split = refl; is = tails m x more (prefix ++ busy_end ∷ []) one };
         })
 
 -- the end with busy ends a search that goes on
 taken_over : (held : Copy) (session : SyncSession) → held.session ≡ Some session → session.id ≡ 1 → session.persists ≡ true
-    → taken_within 1 held busy ≡ (record { held = held.held; cookie = held.cookie; session = None }, Over (pos BUSY))
+    → taken_within 1 held busy_end ≡ (record { held = held.held; cookie = held.cookie; session = None }, Over (pos BUSY))
 taken_over held session runs id mode =
     ap (λ (o : Copy × Answer). refused_by (limit_fault false o.0 o.1) held o) here ∙ refl
   where
-    here : taken 1 held busy ≡ over held (pos BUSY)
+    here : taken 1 held busy_end ≡ over held (pos BUSY)
     here =
-        ap (λ found. taken_by found 1 held busy) runs
-        ∙ ap (λ k. cond (1 == k) (taken_in held session busy) (refused held OutOfPlace)) id
+        ap (λ found. taken_by found 1 held busy_end) runs
+        ∙ ap (λ k. cond (1 == k) (taken_in held session busy_end) (refused held OutOfPlace)) id
         ∙ ap (λ b. cond (b || not (int_eq (pos BUSY) (pos SUCCESS))) (over held (pos BUSY)) (taken_done held session None)) mode
 
 -- ---- what a consumer is reported
@@ -155,7 +156,7 @@ abbrev pub TakingKept : ℕ → Name → Agreement → Known → Option (Agreeme
 TakingKept number suffix pair known None = Unit {0}
 TakingKept number suffix pair known (Some next) = IsKept number suffix pair next.0 (next.1 ∷ []) known
 
-module _ (lin : Lineage) (number : ℕ) (suffix : Name) (p : ProviderState) (f : ConsumerNode) (known : Known) (opening : Opening) (latest : known.opening ≡ Some opening) (source : IsSource number suffix p)
+module _ (lin : Lineage) (number : ℕ) (suffix : Name) (p : ProviderState) (f : ConsumerNode) (known : Known) (opening : ReportedOpening) (latest : known.opening ≡ Some opening) (source : IsSource number suffix p)
     (fed : IsFed number p f known) (goes : GoesOn number p f opening known.entries) where
   abbrev writes : List Write
   writes = p.directory.writes
@@ -453,6 +454,7 @@ module _ (lin : Lineage) (number : ℕ) (suffix : Name) (p : ProviderState) (f :
           subst (λ (h : Copy × Came). Is h.0 h.1) (sym (decoded_is (subst IsOfSearch (sym is.message) (inr (refl, refl))) (ap ends_without_cookie is.message)))
           (subst (λ (o : Copy × Answer). Is o.0 (came_of o.1)) (sym outcome_is) ended_is)
 
+    -- the first message of the link is taken, and the consumer is fed as before
     pub one_taken : IsTaken (taken_as (agreement_of p f lin) left (received held (sent_octets m)).0 (received held (sent_octets m)).1).0 (taken_as (agreement_of p f lin) left (received held (sent_octets m)).0 (received held (sent_octets m)).1).1
     one_taken = by (first_left goes.session.cut goes.session.ahead m (rest ++ goes.session.pending) remains)
       where
@@ -462,12 +464,13 @@ module _ (lin : Lineage) (number : ℕ) (suffix : Name) (p : ProviderState) (f :
         by (inr is) = busy_is is
 
 -- what a consumer whose search goes on takes
-abbrev pub GoingTaken : (lin : Lineage) (number : ℕ) (suffix : Name) (p : ProviderState) (f : ConsumerNode) (known : Known) (opening : Opening) → known.opening ≡ Some opening → IsSource number suffix p → IsFed number p f known
+abbrev pub GoingTaken : (lin : Lineage) (number : ℕ) (suffix : Name) (p : ProviderState) (f : ConsumerNode) (known : Known) (opening : ReportedOpening) → known.opening ≡ Some opening → IsSource number suffix p → IsFed number p f known
     → GoesOn number p f opening known.entries → Option (Agreement × ReportLine) → Type 0
 GoingTaken lin number suffix p f known opening latest source fed goes None = f.link ≡ []
 GoingTaken lin number suffix p f known opening latest source fed goes (Some next) = IsTaken lin number suffix p f known opening latest source fed goes next.0 next.1
 
-pub going_taken : (lin : Lineage) (number : ℕ) (suffix : Name) (p : ProviderState) (f : ConsumerNode) (known : Known) (opening : Opening) (latest : known.opening ≡ Some opening) (source : IsSource number suffix p)
+-- so it is of a search that goes on
+pub going_taken : (lin : Lineage) (number : ℕ) (suffix : Name) (p : ProviderState) (f : ConsumerNode) (known : Known) (opening : ReportedOpening) (latest : known.opening ≡ Some opening) (source : IsSource number suffix p)
     (fed : IsFed number p f known) (goes : GoesOn number p f opening known.entries) → GoingTaken lin number suffix p f known opening latest source fed goes (taking (agreement_of p f lin))
 going_taken lin number suffix p f known opening latest source fed goes = by goes.session.linked refl
   where
@@ -478,6 +481,7 @@ going_taken lin number suffix p f known opening latest source fed goes = by goes
     by [] none = subst Good (sym (goes.link ∙ ap (map sent_octets) none)) (goes.link ∙ ap (map sent_octets) none)
     by (m ∷ rest) some = subst Good (sym (goes.link ∙ ap (map sent_octets) some)) (one_taken lin number suffix p f known opening latest source fed goes m rest some)
 
+-- and of any consumer, with a message in its link or without one
 pub taking_kept : (number : ℕ) (suffix : Name) (pair : Agreement) (known : Known) → IsSource number suffix pair.provider → IsFed number pair.provider pair.consumer_node known
     → TakingKept number suffix pair known (taking pair)
 taking_kept number suffix pair known source fed = by fed.state

@@ -32,6 +32,7 @@ Nothing pair = Ok (pair, reported.Nothing (name_of pair) ∷ [])
 abbrev CutOff : Agreement → ExchangeOutcome
 CutOff pair = Ok (given_up pair (copy_of pair.consumer_node), reported.Cut (name_of pair) ∷ [])
 
+-- a consumer that was cut where it was busy is at rest
 pub idles_rest : IdlesRest
 idles_rest before after lines = by (is_busy before.consumer_node) refl
   where
@@ -90,6 +91,8 @@ done_respecced : (number : ℕ) (suffix : Name) (search : Search) (pair after : 
 done_respecced number suffix search pair after lines known is later more same =
     subst (λ (next : Agreement × List ReportLine). IsRespecced number suffix search pair next.0 next.1 known) (same_next (after, lines) (later, more) same) is
 
+-- where something else is wanted, what holds of the others is kept, and the consumer rests without
+-- a cookie
 pub respecs_are_kept : RespecsAreKept
 respecs_are_kept number suffix search before after lines known below source fed room = by (is_busy before.consumer_node) refl after lines
   where

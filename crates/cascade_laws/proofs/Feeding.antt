@@ -40,7 +40,7 @@ use Rattle.cascade_nodes.proofs.Fed.{HasPending, IsAtRest, AreApart, HasRoom}
 use Rattle.cascade_world.specs.Cookies.{held_cookie}
 use Rattle.cascade_world.specs.Directory.{logged_directory, wrote_change}
 use Rattle.cascade_world.specs.Exchange.{Agreement, part_of, idle, respecs}
-use Rattle.cascade_laws.specs.Headline.{Opening, Known, nothing_known, known_after, IsUnserved, IsOpenedAt, NamesPrefix, BeginsFrom, session_over, stream_over, sent_octets, IsNextOf}
+use Rattle.cascade_laws.specs.Headline.{ReportedOpening, Known, nothing_known, known_after, IsUnserved, IsOpenedAt, NamesPrefix, BeginsFrom, session_over, stream_over, sent_octets, IsNextOf}
 use Rattle.cascade_world.specs.Origins.{Lineage, origin_of}
 use Rattle.cascade_world.specs.ReportLines.{Storing, ReportLine}
 use Rattle.cascade_world.specs.ReportLines.ReportLine.{Opened, Refused, Sent, Stored, Ended, Faulted, Settled, Clocked, Shown}
@@ -65,7 +65,7 @@ Promises number search writes known = IsPromised number search writes known.entr
 
 -- how far the search of an opening is over these writes: its messages, up to all writes after the opening, are those
 -- that were taken and those to come; what is in the link and what is pending are those to come, or are cut short
-pub record IsUnderWay (number : ℕ) (search : Search) (writes : List Write) (opening : Opening) : Type 0 where
+pub record IsUnderWay (number : ℕ) (search : Search) (writes : List Write) (opening : ReportedOpening) : Type 0 where
   pub count : ℕ
   pub upto : opening.writes + count ≡ length writes
   pub start : Start
@@ -82,7 +82,7 @@ pub record IsUnderWay (number : ℕ) (search : Search) (writes : List Write) (op
 
 -- a search of that opening goes on between the provider and the consumer: the link, the open search and what is held
 -- are as far as it is
-pub record GoesOn (number : ℕ) (p : ProviderState) (f : ConsumerNode) (opening : Opening) (entries : List Entry) : Type 0 where
+pub record GoesOn (number : ℕ) (p : ProviderState) (f : ConsumerNode) (opening : ReportedOpening) (entries : List Entry) : Type 0 where
   pub session : IsUnderWay number f.consumer.spec p.directory.writes opening
   pub link : f.link ≡ map sent_octets session.linked
   pub search : HasPending p.searches f.consumer.spec opening.persists session.cut f.search session.pending
@@ -90,7 +90,7 @@ pub record GoesOn (number : ℕ) (p : ProviderState) (f : ConsumerNode) (opening
 
 -- the search of the latest opening goes on
 pub record IsGoing (number : ℕ) (p : ProviderState) (f : ConsumerNode) (known : Known) : Type 0 where
-  pub opening : Opening
+  pub opening : ReportedOpening
   pub latest : known.opening ≡ Some opening
   pub goes : GoesOn number p f opening known.entries
 
@@ -130,7 +130,7 @@ frame_of pair = record {
 -- a `stored` line of the consumer after the latest `opened` line reported this
 pub record IsRightOf (number : ℕ) (frame : Frame) (known : Known) (stored : Storing) : Type 0 where
   pub prefix : stored.number ≤ length frame.writes
-  pub opening : Opening
+  pub opening : ReportedOpening
   pub latest : known.opening ≡ Some opening
   pub no_shorter : opening.writes ≤ stored.number
   pub cookie : stored.commit.cookie ≡ Some (cookie_after number number frame.writes stored.number)
@@ -142,7 +142,7 @@ pub record IsRightOf (number : ℕ) (frame : Frame) (known : Known) (stored : St
 
 -- a `sent` line after the latest `opened` line
 pub record IsSentOf (number : ℕ) (frame : Frame) (known : Known) (octets : List ℕ) : Type 0 where
-  pub opening : Opening
+  pub opening : ReportedOpening
   pub latest : known.opening ≡ Some opening
   pub next : IsNextOf number frame.spec frame.writes opening octets
 

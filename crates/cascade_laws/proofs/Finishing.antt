@@ -95,6 +95,7 @@ module _ (lasts : PromisesLast) (kept : CommitsAreKept) (selected : SelectedCanB
   with_own_finished own (Ok own') found replica done = own_finished own own' found replica done
   with_own_finished own (Err cause) found replica done = tt
 
+  -- whether there is a replica of that name or not, what holds of the nodes holds after its commits
   pub finished : (found : Option ProviderNode) → provider_nodes_by mid.provider_nodes name ≡ found → FinishedIn (said ++ lines) mid (commits_in mid search (stages_of lines) found)
   finished None there = none_finished there
   finished (Some own) there =

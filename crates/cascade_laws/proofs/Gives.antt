@@ -88,6 +88,7 @@ sending_by_next pair Unknown = tt
 sending_next : (pair : Agreement) → NextIn pair (sending pair)
 sending_next pair = sending_by_next pair (turn_of pair.provider pair.consumer_node.search)
 
+-- a `send` of n messages gives n `sent` lines at most, and one `nothing` where there were fewer
 pub sent_gives : (count : ℕ) → GivesAll (λ name. AreUpTo count name (IsSending name)) (sent count)
 sent_gives zero name pair same = (same, up_to_none name (IsSending name))
 sent_gives (suc count) name pair same = by (sent_gives count) (sending pair) (sending_next pair)
@@ -135,6 +136,7 @@ taken_up_to (suc count) name pair same = by (taken_up_to count name) (taking pai
         let later = more first.0 one.0 in
         (later.0, up_to_more count name (IsTaking name) first.1 (taken_some count (reported.Nothing name ∷ []) first.0).1 one.1 later.1)
 
+-- a `take` of n messages likewise
 pub takes_gives : (count : ℕ) → GivesAll (λ name. AreUpTo count name (IsTaking name)) (takes count)
 takes_gives count name pair same =
     subst (λ n. TakenSome name (AreUpTo count name (IsTaking name)) (taken_some count (reported.Nothing n ∷ []) pair)) (sym same) (taken_up_to count name pair same)
@@ -170,6 +172,7 @@ last_taken name pair message (first ∷ earlier) same is = one_taken name pair f
 abbrev pub IsCutting : List ℕ → List ReportLine → Type 0
 IsCutting name lines = (lines ≡ reported.Cut name ∷ []) ⊎ (lines ≡ reported.Nothing name ∷ [])
 
+-- a `cut` gives one line, `cut` or `nothing`
 pub cut_gives : GivesAll IsCutting cut
 cut_gives name pair same =
     elim (cases_Bool (is_busy pair.consumer_node)) [
@@ -177,6 +180,7 @@ cut_gives name pair same =
       | inr free ↦ rw free (same, inr (ap (λ n. reported.Nothing n ∷ []) same))
     ]
 
+-- a consumer that may be busy gives a `cut` line or none
 pub idle_gives : GivesAll (λ name. IsAtMost (reported.Cut name)) idle
 idle_gives name pair same =
     elim (cases_Bool (is_busy pair.consumer_node)) [
@@ -219,6 +223,7 @@ opened_by_gives mode accepted.NoMemory comes name pair same = absurd comes
 idly_gives : (mode : Mode) → GivesAll IsAnswered (opened_idle mode)
 idly_gives mode name pair same = opened_by_gives mode (answer_of mode pair) (answer_comes mode pair) name pair same
 
+-- an opening gives `opened` or `refused`, before which a `cut` line may stand
 pub opens_gives : (mode : Mode) → GivesAll IsOpening (opens mode)
 opens_gives mode name pair same =
     gives_then name (IsAtMost (reported.Cut name)) (IsAnswered name) (IsOpening name) (idle pair) (opened_idle mode)
@@ -398,6 +403,7 @@ settling name lines more is end = record {
       ∙ append_assoc (is.drains'.taken ++ is.drains'.passed) is.again last ∙ append_assoc is.drains'.taken is.drains'.passed (is.again ++ last);
 }
 
+-- a settling gives the lines of what was taken, sent and opened, and at its end the one `settled`
 pub settles_gives : GivesAll HasSettled settles
 settles_gives name pair same =
     gives_then name (IsCaughtUp name) (λ lines. (writes : ℕ) × (lines ≡ reported.Settled name writes ∷ [])) (HasSettled name) (and_then (and_then (drains pair) runs) catches_up) settled_reported (settling name)
@@ -413,9 +419,11 @@ settles_gives name pair same =
 abbrev pub IsHolding : Option (List ℕ) → List ℕ → List ReportLine → Type 0
 IsHolding cookie name lines = lines ≡ reported.Holds name cookie ∷ []
 
+-- the loss of a cookie reports that none is held
 pub loses_cookie_gives : GivesAll (IsHolding None) loses_cookie
 loses_cookie_gives name pair same = (same, ap (λ n. reported.Holds n None ∷ []) same)
 
+-- a cookie that is given is reported as the one that is held
 pub sets_cookie_gives : (text : List ℕ) → GivesAll (IsHolding (Some text)) (sets_cookie text)
 sets_cookie_gives text name pair same =
     elim (cases_Bool (is_later (copy_of pair.consumer_node).cookie text)) [
@@ -426,6 +434,7 @@ sets_cookie_gives text name pair same =
 abbrev pub IsRespeccing : List ℕ → List ReportLine → Type 0
 IsRespeccing name lines = (cut' : List ReportLine) × IsAtMost (reported.Cut name) cut' × (lines ≡ cut' ++ reported.Holds name None ∷ [])
 
+-- where something else is wanted, a `cut` line may come, and no cookie is held
 pub respecs_gives : (search : Search) → GivesAll IsRespeccing (respecs search)
 respecs_gives search name pair same =
     gives_then name (IsAtMost (reported.Cut name)) (λ lines. lines ≡ reported.Holds name None ∷ []) (IsRespeccing name) (idle pair) (with_spec search) (λ lines more drops is. (lines, drops, ap (λ ls. lines ++ ls) is)) (idle_gives name pair same)

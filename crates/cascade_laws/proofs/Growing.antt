@@ -31,9 +31,11 @@ use Rattle.cascade_laws.proofs.Tracking.{HasCommitted, CommittedBy, IsCommitter,
 
 -- ---- orders are counted
 
+-- one more that passes the test is counted
 pub count_more : {X : Type 0} (test : X → Bool) (xs : List X) (x : X) → test x ≡ true → count_by test (xs ++ x ∷ []) ≡ count_by test xs + 1
 count_more test xs x hit = sum_by-append _ xs (x ∷ []) ∙ rw hit refl
 
+-- one that fails it is not
 pub count_same : {X : Type 0} (test : X → Bool) (xs : List X) (x : X) → test x ≡ false → count_by test (xs ++ x ∷ []) ≡ count_by test xs
 count_same test xs x miss = sum_by-append _ xs (x ∷ []) ∙ rw miss (add-zero (count_by test xs))
 
@@ -48,6 +50,7 @@ pub record Grows (r s : ProviderNode) : Type 0 where
   pub later : List Write
   pub grown : s.provider.directory.writes ≡ r.provider.directory.writes ++ later
 
+-- a provider has the writes that it has
 pub grows_itself : (r : ProviderNode) → Grows r r
 grows_itself r = record { name = refl; kind = refl; history = refl; suffix = refl; later = []; grown = sym (append-nil r.provider.directory.writes) }
 
@@ -80,6 +83,7 @@ AllBecome old new = (name : List ℕ) (r : ProviderNode) → old name ≡ Some r
 abbrev pub AllBeen : (old new : List ℕ → Option ProviderNode) → Type 0
 AllBeen old new = (name : List ℕ) (s : ProviderNode) → new name ≡ Some s → HasBeen old name s
 
+-- where one provider has more writes and the others stay, each has become what it was or more
 pub become_changed : (old new : List ℕ → Option ProviderNode) (name : List ℕ) (r s : ProviderNode) → old name ≡ Some r → IsChanged old new name s → Grows r s → AllBecome old new
 become_changed old new name r s e changed grows other x e' =
     elim (cases_Bool (bytes_eq other name)) [
@@ -91,6 +95,7 @@ become_changed old new name r s e changed grows other x e' =
       | inr miss ↦ record { now = x; there = changed.others other miss ∙ e'; grows = grows_itself x }
     ]
 
+-- and each that is there then was there before
 pub been_changed : (old new : List ℕ → Option ProviderNode) (name : List ℕ) (r s : ProviderNode) → old name ≡ Some r → IsChanged old new name s → Grows r s → AllBeen old new
 been_changed old new name r s e changed grows other x e' =
     elim (found_after old new name s changed other x e') [
@@ -108,12 +113,15 @@ grows_both a b c first second = record {
   grown = second.grown ∙ ap (λ ws. ws ++ second.later) first.grown ∙ append_assoc a.provider.directory.writes first.later second.later;
 }
 
+-- providers that stay have become what they were
 pub become_itself : (old : List ℕ → Option ProviderNode) → AllBecome old old
 become_itself old name r e = record { now = r; there = e; grows = grows_itself r }
 
+-- and were what they are
 pub been_itself : (old : List ℕ → Option ProviderNode) → AllBeen old old
 been_itself old name s e = record { was = s; there = e; grows = grows_itself s }
 
+-- what becomes more and then more again has become more
 pub become_through : (a b c : List ℕ → Option ProviderNode) → AllBecome a b → AllBecome b c → AllBecome a c
 become_through a b c first second name r e =
     let one = first name r e in
@@ -122,9 +130,11 @@ become_through a b c first second name r e =
 
 -- ---- what that keeps
 
+-- a source is one by its own history and suffix
 pub source_now : (number : ℕ) (suffix : List (List TypeAndValue)) (q : ProviderState) → IsSource number suffix q → IsSource q.directory.history q.directory.suffix q
 source_now number suffix q source = subst (λ d. IsSource d.history d.suffix q) (sym source.directory) source
 
+-- with one source in the place of another each provider is still a source
 pub sources_changed : (provider_nodes next : List ProviderNode) (name : List ℕ) (s : ProviderNode) → IsChanged (provider_nodes_by provider_nodes) (provider_nodes_by next) name s
     → IsSource s.provider.directory.history s.provider.directory.suffix s.provider → AreSources provider_nodes → AreSources next
 sources_changed provider_nodes next name s changed source is other x e =
@@ -133,6 +143,7 @@ sources_changed provider_nodes next name s changed source is other x e =
       | inr there ↦ is other x there.1
     ]
 
+-- the numbers of providers stay their own
 pub numbered_grown : (nodes : ℕ) (provider_nodes next : List ProviderNode) → AllBeen (provider_nodes_by provider_nodes) (provider_nodes_by next) → AreNumbered nodes provider_nodes → AreNumbered nodes next
 numbered_grown nodes provider_nodes next been is = record {
   within = λ name s e. let b = been name s e in subst (λ n. n ≤ nodes) (sym b.grows.history) (is.within name b.was b.there);
@@ -141,6 +152,7 @@ numbered_grown nodes provider_nodes next been is = record {
       is.apart name other b.was c.was b.there c.there (sym b.grows.history ∙ same ∙ c.grows.history);
 }
 
+-- where consumers keep their names, each replica still has its consumer
 pub manned_grown : (provider_nodes next : List ProviderNode) (consumer_nodes after : List ConsumerNode) → AllBeen (provider_nodes_by provider_nodes) (provider_nodes_by next)
     → ((name : List ℕ) → is_some (consumer_nodes_by after name) ≡ is_some (consumer_nodes_by consumer_nodes name)) → AreManned provider_nodes consumer_nodes → AreManned next after
 manned_grown provider_nodes next consumer_nodes after been same is name s e =
@@ -149,6 +161,7 @@ manned_grown provider_nodes next consumer_nodes after been same is name s e =
     let Q : Bool → Type 0 = λ f. IsManned b.was.provider.kind f in
     subst P (sym b.grows.kind) (subst Q (sym (same name)) (is name b.was b.there))
 
+-- entries that came from a prefix of a root's writes still do
 pub rooted_one : (provider_nodes next : List ProviderNode) → AllBecome (provider_nodes_by provider_nodes) (provider_nodes_by next) → (search : Search) (entries : List Entry) (origin : Origin) → IsRooted provider_nodes search entries origin → IsRooted next search entries origin
 rooted_one provider_nodes next become search entries origin is =
     let b = become origin.root is.provider_node is.there in
@@ -167,6 +180,7 @@ rooted_one provider_nodes next become search entries origin is =
           ∙ ap (λ n. select search (entries_after n (take origin.number now))) (sym b.grows.history);
     }
 
+-- so do those of all `stored` lines
 pub rooted_grown : (provider_nodes next : List ProviderNode) → AllBecome (provider_nodes_by provider_nodes) (provider_nodes_by next) → (stored : List Storing) → AreRooted provider_nodes stored → AreRooted next stored
 rooted_grown provider_nodes next become [] is = tt
 rooted_grown provider_nodes next become (one ∷ more) is = (by one.origin is.0, rooted_grown provider_nodes next become more is.1)
@@ -180,6 +194,7 @@ abbrev pub PromisesAll : List ProviderNode → Search → Known → Type 0
 PromisesAll provider_nodes search known =
     (name : List ℕ) (r : ProviderNode) → provider_nodes_by provider_nodes name ≡ Some r → Promises r.provider.directory.history search r.provider.directory.writes known
 
+-- what a cookie promises of a provider it promises of one with more writes
 pub promises_grown : PromisesLast → (provider_nodes next : List ProviderNode) (search : Search) (known : Known) → AllBeen (provider_nodes_by provider_nodes) (provider_nodes_by next) → PromisesAll provider_nodes search known → PromisesAll next search known
 promises_grown lasts provider_nodes next search known been is name s e =
     let b = been name s e in
@@ -223,6 +238,8 @@ consumer_node_left lasts said nodes provider_nodes next name r s f e changed gro
           }
     ]
 
+-- where one provider has more writes, and its consumers are fed, each consumer is fed by its
+-- provider
 pub feeds_changed : PromisesLast → (said : List ReportLine) (state : WorldState) (next : List ProviderNode) (name : List ℕ) (r s : ProviderNode) → provider_node_named name state ≡ Some r → IsChanged (provider_nodes_by state.provider_nodes) (provider_nodes_by next) name s → s.name ≡ r.name
     → KeepsAll r.provider.directory.history r.provider.directory.suffix r.provider s.provider → Feeds said state → Feeds said (record state { provider_nodes = next })
 feeds_changed lasts said state next name r s e changed same kept is =
@@ -287,6 +304,7 @@ has_still number said lines name notes writes left is =
       each = λ at stored e. is.each at stored (ap (λ s. slice_get s at) (sym same) ∙ e);
     }
 
+-- lines of others leave what a node has committed
 pub committer_still : (said lines : List ReportLine) (s : ProviderNode) → IsLeft s.name lines → IsCommitter said s → IsCommitter (said ++ lines) s
 committer_still said lines s left is = by s.provider.kind is
   where
@@ -303,6 +321,7 @@ pub record IsSameProviderNode (r s : ProviderNode) : Type 0 where
   pub writes : s.provider.directory.writes ≡ r.provider.directory.writes
   pub notes : s.notes ≡ r.notes
 
+-- a node with the same writes and notes has committed the same
 pub committer_same : (said : List ReportLine) (r s : ProviderNode) → IsSameProviderNode r s → IsCommitter said r → IsCommitter said s
 committer_same said r s same is = subst (CommittedBy said s) (sym same.kind) (by r.provider.kind is)
   where
@@ -314,6 +333,7 @@ committer_same said r s same is = subst (CommittedBy said s) (sym same.kind) (by
         (subst (λ n. HasCommitted r.provider.directory.history said r.name n s.provider.directory.writes) (sym same.notes)
         (subst (λ n. HasCommitted r.provider.directory.history said r.name r.notes n) (sym same.writes) h)))
 
+-- so all nodes have committed what was reported, where the lines leave it
 pub committers_more : (said lines : List ReportLine) (provider_nodes : List ProviderNode) → ((name : List ℕ) → IsLeft name lines) → AreCommitters said provider_nodes → AreCommitters (said ++ lines) provider_nodes
 committers_more said lines provider_nodes left is name s e = committer_still said lines s (left s.name) (is name s e)
 
@@ -326,5 +346,6 @@ committers_changed said provider_nodes next name s changed now is other x e =
       | inr there ↦ is other x there.1 there.0
     ]
 
+-- and all but one of them
 pub committers_but : (hole : List ℕ) (said : List ReportLine) (provider_nodes : List ProviderNode) → AreCommitters said provider_nodes → AreCommittersBut hole said provider_nodes
 committers_but hole said provider_nodes is name s e apart = is name s e

@@ -39,6 +39,7 @@ use Rattle.cascade_laws.proofs.Tracking.{noted, HasCommitted}
 
 -- ---- changes one after another
 
+-- what one change and then another keeps, both keep
 pub keeps_through : (number : ℕ) (suffix : List (List TypeAndValue)) (p q r : ProviderState) → KeepsAll number suffix p q → KeepsAll number suffix q r → KeepsAll number suffix p r
 keeps_through number suffix p q r first second = record {
   source = second.source;
@@ -313,6 +314,7 @@ module _ (kept : CommitsAreKept) (selected : SelectedCanBeServed) (number : ℕ)
   lines_by (line ∷ lines) said own clock is committing =
       line_by line lines said own clock is committing (λ own'. lines_by lines (said ++ line ∷ []) own')
 
+  -- after the lines of an event the replica has committed each stage that they report
   pub lines_commit : (lines said : List ReportLine) (own : ProviderNode) → now ≡ clock_reported said → LinesAreRightOf from frame (known_of name said) lines → IsCommitting number suffix first name said own
       → CommittingIn number suffix first name (said ++ lines) (commits_all now search own (stages_of lines))
   lines_commit lines said own clock is committing = by (limit_of now own.provider (stages_of lines)) (lines_by lines said own clock is committing)

@@ -43,6 +43,7 @@ replica_kept before order name number is = record {
   declared = declared-push before number (asks.Replica name is.source is.search is.reload) is.later order is.declared;
 }
 
+-- a provider that an order does not touch is as the orders before have it
 pub provider_node_kept : (before : List Order) (order : Order) (r : ProviderNode) → Untouched order r.name → IsProviderNode before r → IsProviderNode (before ++ order ∷ []) r
 provider_node_kept before order r quiet is = by r.provider.kind is
   where
@@ -92,15 +93,18 @@ pub record HasStood (old : List ℕ → Option ProviderNode) (name : List ℕ) (
 abbrev pub AllStill : (old new : List ℕ → Option ProviderNode) → Type 0
 AllStill old new = (name : List ℕ) (s : ProviderNode) → new name ≡ Some s → HasStood old name s
 
+-- providers stand as they stand
 pub all_still : (old : List ℕ → Option ProviderNode) → AllStill old old
 all_still old name s e = record { was = s; there = e; still = still_itself s }
 
+-- what stands still twice stands still
 pub all_still_through : (a b c : List ℕ → Option ProviderNode) → AllStill a b → AllStill b c → AllStill a c
 all_still_through a b c first second name s e =
     let two = second name s e in
     let one = first name two.was two.there in
     record { was = one.was; there = one.there; still = still_through one.was two.was s one.still two.still }
 
+-- where one provider keeps its writes and the others stay, all stand still
 pub still_changed : (old new : List ℕ → Option ProviderNode) (name : List ℕ) (r s : ProviderNode) → old name ≡ Some r → IsChanged old new name s → IsStill r s → AllStill old new
 still_changed old new name r s e changed same other x e' =
     elim (found_after old new name s changed other x e') [
@@ -120,6 +124,7 @@ pub record IsQuiet (order : Order) : Type 0 where
 pub time_still : (before : List Order) (order : Order) (time : ℕ) → ((t : ℕ) → time_after t order ≡ t) → time ≡ time_from 0 before → time ≡ time_from 0 (before ++ order ∷ [])
 time_still before order time still is = is ∙ sym (time_from-push 0 before order ∙ still (time_from 0 before))
 
+-- providers that stand still are as the orders have them after one that touches none
 pub provider_nodes_still : (before : List Order) (order : Order) (provider_nodes next : List ProviderNode) → ((name : List ℕ) → Untouched order name) → AllStill (provider_nodes_by provider_nodes) (provider_nodes_by next) → AreProviderNodes before provider_nodes
     → AreProviderNodes (before ++ order ∷ []) next
 provider_nodes_still before order provider_nodes next quiet still is name s e =
@@ -131,6 +136,7 @@ pub consumers_still : (before : List Order) (order : Order) (consumer_nodes : Li
     → AreConsumers before consumer_nodes → AreConsumers (before ++ order ∷ []) consumer_nodes
 consumers_still before order consumer_nodes still is name f e = follows-push before order name ∙ still name f e ∙ is name f e
 
+-- names that no consumer has follow nothing after an order that gives them nothing to follow
 pub strangers_still : (before : List Order) (order : Order) (consumer_nodes : List ConsumerNode) → ((name : List ℕ) → consumer_nodes_by consumer_nodes name ≡ None → followed name None order ≡ None) → AreStrangers before consumer_nodes → AreStrangers (before ++ order ∷ []) consumer_nodes
 strangers_still before order consumer_nodes still is name e = follows-push before order name ∙ ap (λ now. followed name now order) (is name e) ∙ still name e
 
@@ -149,6 +155,7 @@ orders_quiet before order state new quiet same clock nodes consumer_nodes still 
 pub record AsksOf (order : Order) (name : List ℕ) : Type 0 where
   pub others : (other : List ℕ) (now : Option Following) → bytes_eq name other ≡ false → followed other now order ≡ now
 
+-- after an order for one consumer each follows what the orders say
 pub consumers_asked : (before : List Order) (order : Order) (consumer_nodes next : List ConsumerNode) (name : List ℕ) (g : ConsumerNode) → AsksOf order name
     → followed name (follows_now before name) order ≡ Some (following g.source g.consumer.spec g.consumer.reload) → IsChanged (consumer_nodes_by consumer_nodes) (consumer_nodes_by next) name g → AreConsumers before consumer_nodes
     → AreConsumers (before ++ order ∷ []) next
@@ -160,6 +167,7 @@ consumers_asked before order consumer_nodes next name g asks' own changed is n h
       | inr there ↦ follows-push before order n ∙ asks'.others n (follows_now before n) (other_way n name there.0) ∙ is n h there.1
     ]
 
+-- and a name that no consumer has follows nothing
 pub strangers_asked : (before : List Order) (order : Order) (consumer_nodes next : List ConsumerNode) (name : List ℕ) (g : ConsumerNode) → AsksOf order name → IsChanged (consumer_nodes_by consumer_nodes) (consumer_nodes_by next) name g → AreStrangers before consumer_nodes
     → AreStrangers (before ++ order ∷ []) next
 strangers_asked before order consumer_nodes next name g asks' changed is n none = by (bytes_eq n name) refl
@@ -168,6 +176,7 @@ strangers_asked before order consumer_nodes next name g asks' changed is n none 
     by true hit = let bad : None ≡ Some g = sym none ∙ ap (consumer_nodes_by next) (same_bytes n name hit) ∙ changed.here in let never : ⊥ = cc in absurd never
     by false miss = follows-push before order n ∙ asks'.others n (follows_now before n) (other_way n name miss) ∙ is n (sym (changed.others n miss) ∙ none)
 
+-- so what the orders say of all nodes is so after it
 pub orders_asked : (before : List Order) (order : Order) (state new : WorldState) (name : List ℕ) (f g : ConsumerNode) → IsQuiet order → AsksOf order name
     → followed name (Some (following f.source f.consumer.spec f.consumer.reload)) order ≡ Some (following g.source g.consumer.spec g.consumer.reload) → new.clock ≡ state.clock → new.nodes ≡ state.nodes
     → consumer_nodes_by state.consumer_nodes name ≡ Some f → IsChanged (consumer_nodes_by state.consumer_nodes) (consumer_nodes_by new.consumer_nodes) name g → AllStill (provider_nodes_by state.provider_nodes) (provider_nodes_by new.provider_nodes) → ByOrders before state

@@ -105,6 +105,8 @@ part_keeps (goes.SetCookie text) same number suffix = sets_cookie_keeps text num
 part_keeps goes.CutIfBusy same number suffix = idle_keeps number suffix
 part_keeps (goes.Respec spec) same number suffix = absurd same
 
+-- opening, sending, taking, cutting, settling and what is done to a cookie keep what each part
+-- keeps
 pub parts_are_kept : PartsAreKept
 parts_are_kept number suffix before after lines known exchange same source fed room is =
     subst (IsKeptIn number suffix before known) is (part_keeps exchange same number suffix before known source fed room)

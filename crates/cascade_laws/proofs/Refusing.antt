@@ -42,6 +42,7 @@ once_over copy code = by (code == SUCCESS) refl (same_codes code SUCCESS) (same_
     by true is first last = subst (λ b. IsOver copy (code == E_SYNC_REFRESH_REQUIRED) (ends (not b))) (sym (first ∙ is)) (refused_is (code == E_SYNC_REFRESH_REQUIRED) (is_none true is refl))
     by false is first last = subst (λ b. IsOver copy (code == E_SYNC_REFRESH_REQUIRED) (ends (not b))) (sym (first ∙ is)) (over_is (code == E_SYNC_REFRESH_REQUIRED) last)
 
+-- the copy has no session then, and its cookie is lost with 4096 alone
 pub refused_over : (persists : Bool) (copy : Copy) (code : ℕ) → IsOver copy (code == E_SYNC_REFRESH_REQUIRED) (refused_copy (asking persists copy) code)
 refused_over true copy code = stay_over copy code
 refused_over false copy code = once_over copy code

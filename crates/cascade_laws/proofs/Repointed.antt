@@ -82,6 +82,7 @@ module _ (fed : RestsAreFed) (said : List ReportLine) (state : WorldState) (name
       no_search : (x : ConsumerNode) (at : ℕ) → to ≡ x → x.search ≡ Some at → ⊥
       no_search x at same has = let bad : None ≡ Some at = sym rest.search ∙ ap (λ (y : ConsumerNode). y.search) same ∙ has in cc
 
+  -- each consumer is fed by its provider, also the one that has another provider now
   pub pointed_feeds : Feeds said (pointed name source state)
   pointed_feeds = record {
     clock = is.clock;
@@ -188,6 +189,7 @@ module _ (p : Pointing) (before : List Order) (said : List ReportLine) (state : 
       through_pointed next.0 next.1 keeps (p.idles pair next.0 next.1 same) (with_outcome state (Ok next)) refl
       (outcome_through p.known as_before before order said state f r next.0 next.1 gives e e' (done_kept number suffix pair next.0 next.1 reported kept keeps) keeps is)
 
+  -- what holds of the nodes holds after a `repoint`
   pub repointed : After before said order (pointed_after f.name source (exchange state f.name idle))
   repointed =
       subst (λ x. After before said order (pointed_after f.name source x)) (sym (through_found state f.name idle f r e e'))
@@ -254,6 +256,7 @@ module _ (known : PartsKnown) (kept : RespecsAreKept) (before : List Order) (sai
       through_respecced next.0 next.1 keeps (with_outcome state (Ok next))
       (outcome_through known (λ s. search) before wish said state f r next.0 next.1 gives e e' (done_respecced number suffix search two next.0 next.1 reported done same) keeps is)
 
+  -- and after a `respec`
   pub respecced : After before said wish (exchange state f.name (respecs search))
   respecced =
       subst (After before said wish) (sym (through_found state f.name (respecs search) f r e e'))

@@ -10,7 +10,7 @@ use Rattle.cascade_nodes.specs.declared.node.ProviderNode.{ProviderNode}
 use Rattle.cascade_nodes.specs.declared.node.ConsumerNode.{ConsumerNode}
 use Rattle.cascade_report.specs.declared.notes.Origin.{Origin}
 use Rattle.cascade_world.specs.Exchange.{ExchangeOutcome, agreement_of}
-use Rattle.cascade_laws.specs.Headline.{AreWritesOf, IsConsumer, known_of, reported_origin, IsOrigin, IsOfRoot, IsUnserved, IsAskedFor, IsOpenedAt, IsPrefixSelected, OfCookie, IsOfStream, IsSettled, IsGiven, IsShown, ReportsRight, EachReportsRight}
+use Rattle.cascade_laws.specs.Headline.{AreWritesOf, IsConsumer, known_of, reported_origin, IsOrigin, IsOfRoot, IsUnserved, IsAskedFor, IsOpenedAt, FollowsWrites, IsPrefixSelected, OfCookie, IsOfStream, IsSettled, IsGiven, IsShown, ReportsRight, EachReportsRight}
 use Rattle.cascade_laws.specs.Run.{AreHeld}
 use Rattle.cascade_script.specs.Orders.{Order}
 use Rattle.cascade_world.specs.Origins.{origin_of}
@@ -87,6 +87,18 @@ serves_of before said state f r e is = record {
 abbrev pub FollowsIn : List Order → Frame → Type 0
 FollowsIn before frame = IsConsumer before frame.name frame.source frame.spec frame.reload
 
+-- its consumer follows its writes
+abbrev follows_writes : (before : List Order) (said : List ReportLine) (number : ℕ) (frame : Frame) → FollowsIn before frame → Serves before said number frame → FollowsWrites before said frame.name
+follows_writes before said number frame follows serves = record {
+  provider = frame.source;
+  search = frame.spec;
+  reload = frame.reload;
+  wants = follows;
+  history = number;
+  writes = frame.writes;
+  accepted = serves.accepted;
+}
+
 stored_right : (before : List Order) (said : List ReportLine) (number : ℕ) (frame : Frame) (stored : Storing) → FollowsIn before frame → Serves before said number frame → IsRightOf number frame (known_of frame.name said) stored
     → IsPrefixSelected before said frame.name stored
 stored_right before said number frame stored follows serves is =
@@ -95,13 +107,7 @@ stored_right before said number frame stored follows serves is =
     let P : List Entry → Type 0 = λ es. IfSome (origin_of frame.kind frame.lineage search stored.number) (IsOfRoot before search es) in
     let Q : Option Origin → Type 0 = λ o. IfSome o (IsOfRoot before search stored.entries) in
     record {
-      provider = frame.source;
-      search = search;
-      reload = frame.reload;
-      follows = follows;
-      history = number;
-      writes = frame.writes;
-      accepted = serves.accepted;
+      follows = follows_writes before said number frame follows serves;
       prefix = is.prefix;
       opening = is.opening;
       latest = is.latest;
@@ -120,13 +126,7 @@ cookie_right : (before : List Order) (said : List ReportLine) (number : ℕ) (fr
     → Says frame.reload number frame.writes (known_of frame.name said).cookie → OfCookie before said name Says
 cookie_right before said number frame name Says follows serves same says =
     subst (λ c. OfCookie before said c Says) (sym same) (record {
-      provider = frame.source;
-      search = frame.spec;
-      reload = frame.reload;
-      follows = follows;
-      history = number;
-      writes = frame.writes;
-      accepted = serves.accepted;
+      follows = follows_writes before said number frame follows serves;
       says = says;
     })
 
@@ -161,10 +161,12 @@ silent_line order mode asked (Settled name writes) silent = tt
 silent_line order mode asked (Clocked time) silent = tt
 silent_line order mode asked (Shown name entries) silent = tt
 
+-- lines that report no opening in another mode than was asked for are lines of the order
 pub silent_all : (order : Order) (mode : Bool) → IsAskedFor order mode → (lines : List ReportLine) → AreSilent mode lines → GivenLines order lines
 silent_all order mode asked [] silent = tt
 silent_all order mode asked (line ∷ lines) silent = (silent_line order mode asked line silent.0, silent_all order mode asked lines silent.1)
 
+-- so are the lines of a part of an event
 pub silent_given : (order : Order) (mode : Bool) → IsAskedFor order mode → (outcome : ExchangeOutcome) → SilentIn mode outcome → GivenIn order outcome
 silent_given order mode asked (Ok next) silent = silent_all order mode asked next.1 silent
 silent_given order mode asked (Err cause) silent = tt
@@ -173,13 +175,7 @@ sent_right : (before : List Order) (said : List ReportLine) (number : ℕ) (fram
     → IsSentOf number frame (known_of frame.name said) octets → IsOfStream before said name octets
 sent_right before said number frame name octets follows serves same is =
     subst (λ c. IsOfStream before said c octets) (sym same) (record {
-      provider = frame.source;
-      search = frame.spec;
-      reload = frame.reload;
-      follows = follows;
-      history = number;
-      writes = frame.writes;
-      accepted = serves.accepted;
+      follows = follows_writes before said number frame follows serves;
       opening = is.opening;
       latest = is.latest;
       next = is.next;
@@ -189,13 +185,7 @@ settled_right : (before : List Order) (said : List ReportLine) (number : ℕ) (f
     → IsSettledOf number frame (known_of frame.name said) n → IsSettled before said name n
 settled_right before said number frame name n follows serves same is =
     subst (λ c. IsSettled before said c n) (sym same) (record {
-      provider = frame.source;
-      search = frame.spec;
-      reload = frame.reload;
-      follows = follows;
-      history = number;
-      writes = frame.writes;
-      accepted = serves.accepted;
+      follows = follows_writes before said number frame follows serves;
       all = is.all;
       exactly = is.exactly;
     })
@@ -218,6 +208,7 @@ line_right before order said number frame (Holds name cookie) given follows serv
 line_right before order said number frame (Clocked time) given follows serves is = absurd is
 line_right before order said number frame (Shown name entries) given follows serves is = absurd is
 
+-- lines that are right of a consumer are right for the orders and the lines before them
 pub lines_right : (before : List Order) (order : Order) (said : List ReportLine) (number : ℕ) (frame : Frame) (lines : List ReportLine) → bytes_eq frame.source frame.name ≡ false → GivenLines order lines → EachOwn frame.name lines
     → FollowsIn before frame → Serves before said number frame → LinesAreRightOf number frame (known_of frame.name said) lines → EachReportsRight before order said lines
 lines_right before order said number frame [] apart given own follows serves is = tt
@@ -230,6 +221,7 @@ lines_right before order said number frame (line ∷ lines) apart given own foll
 
 -- ---- what is shown
 
+-- a provider shows its entries after all its writes
 pub provider_node_shown : (before : List Order) (said : List ReportLine) (state : WorldState) (name : List ℕ) (r : ProviderNode) → provider_nodes_by state.provider_nodes name ≡ Some r → Tracks before said state → IsShown before said name (entries_of r.provider.directory)
 provider_node_shown before said state name r e is =
     inl record {
@@ -246,6 +238,7 @@ copies_held before said state is name f e =
     let here = consumer_node_name state.consumer_nodes name f e in
     record { entries = fed.held ∙ ap (λ n. (known_of n said).entries) (sym here); cookie = fed.cookie ∙ ap (λ n. (known_of n said).cookie) (sym here) }
 
+-- a consumer shows the entries that its last `stored` line reported
 pub copy_shown : (before : List Order) (said : List ReportLine) (state : WorldState) (name : List ℕ) (f : ConsumerNode) → consumer_nodes_by state.consumer_nodes name ≡ Some f → Tracks before said state → IsShown before said name f.consumer.copy.held
 copy_shown before said state name f e is =
     let held = copies_held before said state is name f e in

@@ -86,6 +86,7 @@ rooted_at provider_nodes (s ∷ more) zero one is e =
     let same : s ≡ one = cc in subst (λ (x : Storing). IfSome x.origin (IsRooted provider_nodes x.search x.entries)) same is.0
 rooted_at provider_nodes (s ∷ more) (suc at) one is e = rooted_at provider_nodes more at one is.1 e
 
+-- without writes there are no entries
 pub nothing_written : (number : ℕ) → entries_after number [] ≡ []
 unfolding state_from
 nothing_written number = refl
@@ -115,6 +116,8 @@ passed_rooted provider_nodes search content (Some one) is =
 
 -- ---- the origin of each prefix of a provider's writes
 
+-- where the lineage knows an origin, what is wanted of this prefix is what is wanted of that prefix
+-- of the root's writes
 pub origin_rooted : (said : List ReportLine) (state : WorldState) (name : List ℕ) (r : ProviderNode) (search : Search) (n : ℕ) → Feeds said state → AreCommitters said state.provider_nodes → provider_nodes_by state.provider_nodes name ≡ Some r → n ≤ length r.provider.directory.writes
     → IfSome (origin_of r.provider.kind (lineage_of state r) search n) (IsRooted state.provider_nodes search (select search (entries_after r.provider.directory.history (take n r.provider.directory.writes))))
 origin_rooted said state name r search n feeds commits e low = by r.provider.kind refl n low (feeds.manned name r e) (commits name r e)
@@ -194,6 +197,7 @@ origin_is before said state name r search n orders feeds commits e = by r.provid
 
 -- ---- as the headline says it
 
+-- the writes of a provider are those that the headline means
 pub accepted_at : (before : List Order) (said : List ReportLine) (state : WorldState) (name : List ℕ) (r : ProviderNode) → ByOrders before state → AreCommitters said state.provider_nodes → provider_nodes_by state.provider_nodes name ≡ Some r
     → AreWritesOf before said name r.provider.directory.history r.provider.directory.writes
 accepted_at before said state name r orders commits e =
@@ -227,6 +231,7 @@ of_root before state search entries origin orders is =
       exactly = is.exactly;
     }
 
+-- entries that come from a prefix of a root's writes come from one of those that the orders have
 pub of_root_some : (before : List Order) (state : WorldState) (search : Search) (entries : List Entry) (origin : Option Origin) → ByOrders before state → IfSome origin (IsRooted state.provider_nodes search entries) → IfSome origin (IsOfRoot before search entries)
 of_root_some before state search entries None orders is = is
 of_root_some before state search entries (Some origin) orders is = of_root before state search entries origin orders is

@@ -48,9 +48,11 @@ pub record IsLeft (name : List ℕ) (lines : List ReportLine) : Type 0 where
   pub stored : stored_of name lines ≡ []
   pub commits : (history : ℕ) (found : Committed) → (fold (committed_after history name) found lines).writes ≡ found.writes
 
+-- no lines leave everything
 pub left_by_none : (name : List ℕ) → IsLeft name []
 left_by_none name = record { known = λ found. refl; stored = refl; commits = λ history found. refl }
 
+-- a line and then lines that leave it leave it together
 pub left_more : (name : List ℕ) (line : ReportLine) (lines : List ReportLine) → IsLeftBy name line → IsLeft name lines → IsLeft name (line ∷ lines)
 left_more name line lines one more = record {
   known = λ found. ap (λ k. fold (known_after name) k lines) (one.known found) ∙ more.known found;
@@ -58,6 +60,7 @@ left_more name line lines one more = record {
   commits = λ history found. more.commits history (committed_after history name found line) ∙ one.commits history found;
 }
 
+-- one line leaves what it leaves
 pub left_by_one : (name : List ℕ) (line : ReportLine) → IsLeftBy name line → IsLeft name (line ∷ [])
 left_by_one name line one = left_more name line [] one (left_by_none name)
 
@@ -65,9 +68,11 @@ left_by_one name line one = left_more name line [] one (left_by_none name)
 pub left_clocked : (name : List ℕ) (time : ℕ) → IsLeftBy name (Clocked time)
 left_clocked name time = record { known = λ found. refl; stored = refl; commits = λ history found. refl }
 
+-- a `wrote` line leaves what was reported of each node's copy
 pub left_wrote : (name other : List ℕ) (code writes : ℕ) → IsLeftBy name (Wrote other code writes)
 left_wrote name other code writes = record { known = λ found. refl; stored = refl; commits = λ history found. refl }
 
+-- so does what is shown
 pub left_shown : (name other : List ℕ) (entries : List Entry) → IsLeftBy name (Shown other entries)
 left_shown name other entries = record { known = λ found. refl; stored = refl; commits = λ history found. refl }
 
@@ -89,6 +94,7 @@ left_new : (name : List ℕ) (state : WorldState) (line : ReportLine) → has_no
 left_new name state line new (inl time) = subst (IsLeftBy name) (sym time.1) (left_clocked name time.0)
 left_new name state line new (inr there) = left_line name line (new_is_other name (name_in line) state new there)
 
+-- lines of nodes that are there leave what was reported of a name that none has
 pub left_for_new : (name : List ℕ) (state : WorldState) (lines : List ReportLine) → has_node name state ≡ false → AreOfNodes state lines → IsLeft name lines
 left_for_new name state [] new of = left_by_none name
 left_for_new name state (line ∷ lines) new of = left_more name line lines (left_new name state line new of.0) (left_for_new name state lines new of.1)
@@ -99,21 +105,26 @@ left_for_new name state (line ∷ lines) new of = left_more name line lines (lef
 pub known_next : (name : List ℕ) (said : List ReportLine) (line : ReportLine) → known_of name (said ++ line ∷ []) ≡ known_after name (known_of name said) line
 known_next name said line = fold-append (known_after name) nothing_known said (line ∷ [])
 
+-- what is known of a copy stays, where the lines leave it
 pub known_still : (name : List ℕ) (said lines : List ReportLine) → IsLeft name lines → known_of name (said ++ lines) ≡ known_of name said
 known_still name said lines is = fold-append (known_after name) nothing_known said lines ∙ is.known (known_of name said)
 
+-- the `stored` lines among some lines and others are those of both
 pub stored_more : (name : List ℕ) (said lines : List ReportLine) → stored_of name (said ++ lines) ≡ stored_of name said ++ stored_of name lines
 stored_more name said lines = flat_map-append (stored_by name) said lines
 
+-- they stay where the later lines have none
 pub stored_still : (name : List ℕ) (said lines : List ReportLine) → IsLeft name lines → stored_of name (said ++ lines) ≡ stored_of name said
 stored_still name said lines is = stored_more name said lines ∙ ap (λ s. stored_of name said ++ s) is.stored ∙ append-nil (stored_of name said)
 
 abbrev pub committed_of : ℕ → List ℕ → List ReportLine → Committed
 committed_of history name said = fold (committed_after history name) (record { time = 0; writes = [] }) said
 
+-- the commits of some lines and others are those of the first, and then those of the others
 pub commits_more : (history : ℕ) (name : List ℕ) (said lines : List ReportLine) → commits_reported history name (said ++ lines) ≡ (fold (committed_after history name) (committed_of history name said) lines).writes
 commits_more history name said lines = ap (λ (c : Committed). c.writes) (fold-append (committed_after history name) (record { time = 0; writes = [] }) said lines)
 
+-- they stay where the later lines have none
 pub commits_still : (history : ℕ) (name : List ℕ) (said lines : List ReportLine) → IsLeft name lines → commits_reported history name (said ++ lines) ≡ commits_reported history name said
 commits_still history name said lines is = commits_more history name said lines ∙ is.commits history (committed_of history name said)
 
@@ -156,5 +167,6 @@ time_after_lines history name found (line ∷ lines) =
 pub committed_time : (history : ℕ) (name : List ℕ) (said : List ReportLine) → (committed_of history name said).time ≡ clock_reported said
 committed_time history name said = time_after_lines history name (record { time = 0; writes = [] }) said
 
+-- lines that set no clock leave it
 pub clock_more : (said lines : List ReportLine) → ((time : ℕ) → fold time_reported time lines ≡ time) → clock_reported (said ++ lines) ≡ clock_reported said
 clock_more said lines still = fold-append time_reported 0 said lines ∙ still (clock_reported said)

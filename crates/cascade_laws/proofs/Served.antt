@@ -144,6 +144,7 @@ module _ (d : DirectoryState) (number : ℕ) (sid : d.sid ≡ number) (history :
       (record { serves = ours_servable text cookie read ours; counted = refl })
   from_cookie text cookie read false ours is = λ serves. let there = servable_ours text serves in let bad : true ≡ false = sym there ∙ ap is_some is in let never : ⊥ = cc in never
 
+  -- it is that of the cookie, where this serves
   pub start_from : (cookie : Option (List ℕ)) → BeginsFrom number d.writes cookie (number_of (start_at d (prefix_of_cookie d cookie)))
   start_from None = tt
   start_from (Some text) = by (cookie_of_text text) refl
@@ -182,6 +183,7 @@ module _ (d : DirectoryState) (number : ℕ) (sid : d.sid ≡ number) (history :
     by_read None promised = ascending
     by_read (Some cookie) promised = by_ours cookie promised (is_ours d cookie) refl
 
+    -- what the consumer holds lets the search begin there
     pub start_begins : (cookie : Option (List ℕ)) → IsPromised number search d.writes entries (held_cookie cookie)
         → MayBegin operation (start_at d (prefix_of_cookie d cookie)) (length d.writes) entries
     start_begins None promised = ascending

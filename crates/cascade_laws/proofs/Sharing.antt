@@ -12,11 +12,11 @@ use Rattle.sync_provider.proofs.Advanced.{Searches, with_searches}
 use Rattle.cascade_nodes.specs.declared.node.ConsumerNode.{ConsumerNode}
 use Rattle.cascade_nodes.proofs.Fed.{IsAtRest, OwnStays, pending-other, own_search}
 use Rattle.cascade_world.specs.Exchange.{agreement_of}
-use Rattle.cascade_laws.specs.Headline.{Opening, Known}
+use Rattle.cascade_laws.specs.Headline.{ReportedOpening, Known}
 use Rattle.cascade_world.specs.Origins.{Lineage}
 use Rattle.cascade_laws.proofs.Feeding.{GoesOn, IsGoing, IsFed, KeepsOthers}
 
-going-other : (number : ℕ) (p : ProviderState) (later : Searches) (g : ConsumerNode) (opening : Opening) (entries : List Entry) → OwnStays p.searches later g.search
+going-other : (number : ℕ) (p : ProviderState) (later : Searches) (g : ConsumerNode) (opening : ReportedOpening) (entries : List Entry) → OwnStays p.searches later g.search
     → GoesOn number p g opening entries → GoesOn number (with_searches p later) g opening entries
 going-other number p later g opening entries stays goes = record {
   session = goes.session;

@@ -9,7 +9,8 @@ use Rattle.ldap_constants.specs.declared.result_codes.TheConstants.{ADMIN_LIMIT_
 use Rattle.csn_cookie.specs.Csn.{IsCsn, start, is_before}
 use Rattle.csn_cookie.specs.CsnMaker.{greatest_count}
 use Rattle.dn_names.specs.Names.{TypeAndValue, is_at_or_below}
-use Rattle.directory_laws.specs.Accepted.{IsWellFormed, IsAcceptedFromClient, WereAccepted}
+use Rattle.directory_writes.specs.Formed.{IsWellFormed}
+use Rattle.directory_laws.specs.Accepted.{IsAcceptedFromClient, WereAccepted}
 use Rattle.directory_laws.proofs.Histories.{WereAccepted-push, sent-state_of}
 use Rattle.directory_laws.proofs.ReadWrites.{gives-change}
 use Rattle.directory_laws.proofs.Csns.{IsCsn-start, IsCsn-next_csn}
@@ -46,7 +47,7 @@ use Rattle.sync_provider.specs.Committing.{fault_of, commit_refusal}
 use Rattle.sync_provider.specs.Law.{Delivers}
 use Rattle.sync_provider.specs.Machine.{ProviderState, each_search_notified, after_judged, judged_by, after_commit, log_limited, queue_limited}
 use Rattle.sync_provider.specs.Queueing.{group_of, search_notified}
-use Rattle.sync_provider.specs.Search.{SearchState, session_of, pending}
+use Rattle.sync_provider.specs.Search.{SearchState, session_of, busy_end, pending}
 use Rattle.sync_provider.specs.declared.provider.Kind.{Kind}
 use Rattle.sync_provider.specs.declared.provider.Kind.TheVariants.{Root, Replica}
 use Rattle.sync_provider.specs.declared.writing.CommitFault.{CommitFault}
@@ -60,12 +61,13 @@ use Rattle.cascade_nodes.specs.declared.node.ConsumerNode.{ConsumerNode}
 use Rattle.cascade_nodes.proofs.Fed.{waits, IsPending, HasPending, IsAtRest}
 use Rattle.cascade_world.specs.Cookies.{held_cookie}
 use Rattle.cascade_world.specs.Directory.{logged_directory, wrote_read}
-use Rattle.cascade_laws.specs.Headline.{Opening, Known, BeginsFrom, session_over, stream_over, busy}
+use Rattle.cascade_laws.specs.Headline.{ReportedOpening, Known, BeginsFrom, session_over, stream_over}
 use Rattle.cascade_laws.proofs.Feeding.{IsSource, GoesOn, IsGoing, IsFed, RestIsFed, RestsAreFed, FreshIsSource, KeepsAll, WritesAreKept, LimitsAreKept, QueuesAreKept, IsCommitted, CommitIs, CommitsAreKept}
 
 abbrev Name : Type 0
 Name = List (List TypeAndValue)
 
+-- a consumer at rest without entries and cookie is fed by any provider
 pub rest_is_fed : RestIsFed
 rest_is_fed number p f search link session held cookie below = record {
   held = held;
@@ -89,6 +91,7 @@ rests_are_fed number other p q f g known fed rest same promised below = record {
   state = inl rest;
 }
 
+-- a provider without writes and searches is a source
 pub fresh_is_source : FreshIsSource
 fresh_is_source number suffix kind first small = record {
   first = first;
@@ -141,7 +144,7 @@ source-push number suffix p w source next = record {
 
 -- ---- a search that goes on
 
-module _ (number : ℕ) (suffix : Name) (p : ProviderState) (w : Write) (source : IsSource number suffix p) (g : ConsumerNode) (opening : Opening) (entries : List Entry) (goes : GoesOn number p g opening entries) where
+module _ (number : ℕ) (suffix : Name) (p : ProviderState) (w : Write) (source : IsSource number suffix p) (g : ConsumerNode) (opening : ReportedOpening) (entries : List Entry) (goes : GoesOn number p g opening entries) where
   abbrev writes : List Write
   writes = p.directory.writes
 
@@ -234,7 +237,7 @@ module _ (number : ℕ) (suffix : Name) (p : ProviderState) (w : Write) (source 
     some_now none = by opening.persists refl now.over refl
       where
         by : (persists : Bool) → opening.persists ≡ persists → (over : Bool) → now.over ≡ over → HasNext (pending now)
-        by true mode true on = record { next = busy; later = []; same = pending_over now on }
+        by true mode true on = record { next = busy_end; later = []; same = pending_over now on }
         by true mode false off = absurd (true≢false (sym (λ i. waits (mode i) (off i)) ∙ none))
         by false mode over is = subst HasNext (sym (ap pending (still mode) ∙ has.same)) (has.some (ap (λ b. waits b goes.session.cut) mode))
 
@@ -264,6 +267,7 @@ module _ (number : ℕ) (suffix : Name) (p : ProviderState) (w : Write) (source 
       by None own has = closed_search_notified own has.1 has
       by (Some at) own has = open_search_notified at own has
 
+  -- the search goes on, with the messages of the write at its end
   pub going-push : GoesOn number after g opening entries
   going-push = record {
     session = record {
@@ -392,6 +396,7 @@ written_kept number suffix p w source next = record {
   grown = refl;
 }
 
+-- a write of a client leaves a source, by which its consumers are fed
 pub writes_are_kept : WritesAreKept
 writes_are_kept number suffix p now change source = by_read (read_change change) refl
   where
@@ -478,6 +483,7 @@ module _ (number : ℕ) (suffix : Name) (p : ProviderState) (puts : List Entry) 
       ∙ ap (λ held. option_map fault_of (option_or log_refusal held)) held_none
       ∙ ap (option_map fault_of) (or_none log_refusal)
 
+  -- a commit of a replica is made, or refused for a limit alone
   pub commit_is : p.kind ≡ Replica → CommitIs number suffix p puts drops now (commit_refusal p.kind p.directory puts drops now)
   commit_is replica = by (commit_refusal p.kind p.directory puts drops now) refl (subst IsLimit (sym (refusal_is replica)) (log_limits (nat_le most_writes (length p.directory.writes)) (nat_lt most_writes_weight (kept_weight p.directory.writes + op_weight (Commit puts drops))) (is_none (csn_of_next_write p.directory now))))
     where
@@ -493,13 +499,14 @@ module _ (number : ℕ) (suffix : Name) (p : ProviderState) (puts : List Entry) 
       by (Some fault.NoMemory) is limit = limit
       by (Some fault.NotAReplica) is limit = limit
 
+-- a commit leaves a source, by which its consumers are fed
 pub commits_are_kept : CommitsAreKept
 commits_are_kept number suffix p puts drops now source replica good = commit_is number suffix p puts drops now source good replica
 
 -- ---- limits
 
 -- another log, or another limit
-going-limited : (number : ℕ) (p q : ProviderState) (g : ConsumerNode) (opening : Opening) (entries : List Entry) → q.directory.writes ≡ p.directory.writes → q.searches ≡ p.searches
+going-limited : (number : ℕ) (p q : ProviderState) (g : ConsumerNode) (opening : ReportedOpening) (entries : List Entry) → q.directory.writes ≡ p.directory.writes → q.searches ≡ p.searches
     → GoesOn number p g opening entries → GoesOn number q g opening entries
 going-limited number p q g opening entries writes searches goes = record {
   session = record {
@@ -537,6 +544,7 @@ fed-limited number p q g known writes suffix searches fed = record {
     by (inl rest) = inl rest
     by (inr going) = inr (record { opening = going.opening; latest = going.latest; goes = going-limited number p q g going.opening known.entries writes searches going.goes })
 
+-- so does another limit of the session log
 pub limits_are_kept : LimitsAreKept
 limits_are_kept number suffix p limit source = record {
   source = record {
@@ -557,6 +565,7 @@ limits_are_kept number suffix p limit source = record {
   grown = sym (append-nil p.directory.writes);
 }
 
+-- and another limit of queues
 pub queues_are_kept : QueuesAreKept
 queues_are_kept number suffix p limit source = record {
   source = record {

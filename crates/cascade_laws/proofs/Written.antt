@@ -156,11 +156,13 @@ limit_after lasts before order said state name change quiet same writes kept is 
       tt,
     ))
 
+-- what holds of the nodes holds after a `log`
 pub log_after : PromisesLast → LimitsAreKept → (before : List Order) (said : List ReportLine) (state : WorldState) (name : List ℕ) (limit : ℕ) → Tracks before said state → After before said (asks.Log name limit) (limit_log state name limit)
 log_after lasts kept before said state name limit is =
     limit_after lasts before (asks.Log name limit) said state name (λ provider. log_limited provider limit) (record { still = λ t. refl; undeclared = refl; untouched = λ other. tt }) (λ consumer now. refl) (λ p. refl)
     (λ p source. kept p.directory.history p.directory.suffix p limit source) is
 
+-- and after a `queue`
 pub queue_after : PromisesLast → QueuesAreKept → (before : List Order) (said : List ReportLine) (state : WorldState) (name : List ℕ) (limit : ℕ) → Tracks before said state → After before said (asks.Queue name limit) (limit_queue state name limit)
 queue_after lasts kept before said state name limit is =
     limit_after lasts before (asks.Queue name limit) said state name (λ provider. queue_limited provider limit) (record { still = λ t. refl; undeclared = refl; untouched = λ other. tt }) (λ consumer now. refl) (λ p. refl)
@@ -266,6 +268,7 @@ write_tracked lasts before said state name change r e kept is = record {
               provider_node_kept before order x apart (is.orders.provider_nodes n x was.1)
         ]
 
+-- and after a `write`
 pub write_after : PromisesLast → WritesAreKept → (before : List Order) (said : List ReportLine) (state : WorldState) (name : List ℕ) (change : Change) (r : ProviderNode) → provider_node_named name state ≡ Some r → Tracks before said state
     → After before said (asks.Write name change) (write_to state name change (Some r))
 write_after lasts kept before said state name change r e is =

@@ -19,12 +19,11 @@ use Rattle.ldap_messages.specs.Whole.{message_octets}
 use Rattle.sync_model.specs.Copy.{Commit}
 use Rattle.sync_model.specs.Incremental.{number_of, sent_entry, about}
 use Rattle.sync_model.specs.Message.{SyncMessage}
-use Rattle.sync_model.specs.Message.SyncMessage.{Done}
 use Rattle.sync_model.specs.Stream.{SyncOperation, Start, content_after, among, group, later, stream}
 use Rattle.sync_wire.specs.Sending.{sent}
 use Rattle.directory_writes.specs.Directory.{entries_after, last_csn, csns}
 use Rattle.directory_writes.specs.Touches.{uuids_of}
-use Rattle.sync_provider.specs.Search.{cookie_after, session_of, whole_walk, refresh_from}
+use Rattle.sync_provider.specs.Search.{busy_end, cookie_after, session_of, whole_walk, refresh_from}
 use Rattle.cascade_world.specs.Directory.{directory_of, changed}
 use Rattle.cascade_world.specs.Opening.{message_id}
 use Rattle.cascade_script.specs.Orders.{Order}
@@ -187,7 +186,7 @@ AreWritesOf before said provider history writes =
 
 -- an `opened` line: the number that it reports, whether the search goes on after its refresh, and
 -- the cookie that the consumer held then; and the messages that were sent since, as bytes
-pub record Opening : Type 0 where
+pub record ReportedOpening : Type 0 where
   pub writes : ℕ
   pub persists : Bool
   pub cookie : Option (List ℕ)
@@ -198,12 +197,12 @@ pub record Opening : Type 0 where
 pub record Known : Type 0 where
   pub entries : List Entry
   pub cookie : Option (List ℕ)
-  pub opening : Option Opening
+  pub opening : Option ReportedOpening
 
 abbrev pub nothing_known : Known
 nothing_known = record { entries = []; cookie = None; opening = None }
 
-abbrev pub with_sent : List ℕ → Opening → Opening
+abbrev pub with_sent : List ℕ → ReportedOpening → ReportedOpening
 with_sent message opening = record opening { sent = opening.sent ++ message ∷ [] }
 
 -- a `stored` line reports what is held then; the cookie is lost where it is refused,
@@ -276,16 +275,16 @@ BeginsFrom history writes (Some text) None = IsServable text history writes → 
 BeginsFrom history writes (Some text) (Some number) = NamesPrefix text history writes number
 
 -- a search in the mode of an opening, over a provider's writes
-abbrev pub session_over : ℕ → Search → List Write → Opening → SyncOperation
+abbrev pub session_over : ℕ → Search → List Write → ReportedOpening → SyncOperation
 session_over history search writes opening =
     session_of opening.persists history history search writes
 
 -- its refresh, and all its messages up to n later writes (RFC 4533, sections 3.3 and 3.4)
-abbrev pub refresh_over : ℕ → Search → List Write → Opening → Start → List SyncMessage
+abbrev pub refresh_over : ℕ → Search → List Write → ReportedOpening → Start → List SyncMessage
 refresh_over history search writes opening start =
     refresh_from (session_over history search writes opening) start opening.writes
 
-abbrev pub stream_over : ℕ → Search → List Write → Opening → Start → ℕ → List SyncMessage
+abbrev pub stream_over : ℕ → Search → List Write → ReportedOpening → Start → ℕ → List SyncMessage
 stream_over history search writes opening start count =
     let operation = session_over history search writes opening in
     stream operation start opening.writes (whole_walk operation start opening.writes) count
@@ -294,15 +293,12 @@ stream_over history search writes opening start count =
 abbrev pub sent_octets : SyncMessage → List ℕ
 sent_octets message = message_octets (sent message_id message)
 
--- the end with busy, where the provider could not keep what was to be sent
-abbrev pub busy : SyncMessage
-busy = Done (pos BUSY) None
-
 -- a message follows these in a Stream, or it is the end with busy that follows a prefix of one
 abbrev pub Follows : (persists : Bool) → List SyncMessage → List SyncMessage → SyncMessage → Type 0
 Follows persists all earlier message =
     ((rest : List SyncMessage) × (earlier ++ message ∷ rest ≡ all))
-    ⊎ ((rest : List SyncMessage) × (earlier ++ rest ≡ all) × (message ≡ busy) × (persists ≡ true))
+    ⊎ ((rest : List SyncMessage) × (earlier ++ rest ≡ all) × (message ≡ busy_end)
+    × (persists ≡ true))
 
 -- the message that follows these, which begin with the refresh of a search that was opened at
 -- this number of writes, is one of those that the write after `number` writes reports; and it is
@@ -325,6 +321,17 @@ pub record ReportsChange
       ≡ true
 
 -- ---- the lines
+
+-- what a consumer follows, and the accepted writes of its provider
+pub record FollowsWrites
+    (before : List Order) (said : List ReportLine) (consumer : List ℕ) : Type 0 where
+  pub provider : List ℕ
+  pub search : Search
+  pub reload : Bool
+  pub wants : IsConsumer before consumer provider search reload
+  pub history : ℕ
+  pub writes : List Write
+  pub accepted : AreWritesOf before said provider history writes
 
 -- the origin of a prefix of a root's writes is itself
 pub record IsOwnOrigin
@@ -383,41 +390,36 @@ pub record IsOfRoot
 pub record IsPrefixSelected
     (before : List Order) (said : List ReportLine) (consumer : List ℕ)
     (stored : Storing) : Type 0 where
-  pub provider : List ℕ
-  pub search : Search
-  pub reload : Bool
-  pub follows : IsConsumer before consumer provider search reload
-  pub history : ℕ
-  pub writes : List Write
-  pub accepted : AreWritesOf before said provider history writes
-  pub prefix : stored.number ≤ length writes
-  pub opening : Opening
+  pub follows : FollowsWrites before said consumer
+  pub prefix : stored.number ≤ length follows.writes
+  pub opening : ReportedOpening
   pub latest : (known_of consumer said).opening ≡ Some opening
   pub no_shorter : opening.writes ≤ stored.number
-  pub cookie : stored.commit.cookie ≡ Some (cookie_after history history writes stored.number)
+  pub cookie :
+      stored.commit.cookie
+      ≡ Some (cookie_after follows.history follows.history follows.writes stored.number)
   pub names :
-      NamesPrefix (cookie_after history history writes stored.number) history writes stored.number
-  pub exactly : stored.entries ≡ select search (entries_after history (take stored.number writes))
+      NamesPrefix (cookie_after follows.history follows.history follows.writes stored.number)
+      follows.history follows.writes stored.number
+  pub exactly :
+      stored.entries
+      ≡ select follows.search
+      (entries_after follows.history (take stored.number follows.writes))
   pub staged :
       committed (known_of consumer said).entries stored.commit.puts stored.commit.drops
       ≡ stored.entries
-  pub wanted : stored.search ≡ search
-  pub from : IsOrigin before said provider search stored.number stored.origin
-  pub of_root : IfSome stored.origin (IsOfRoot before search stored.entries)
+  pub wanted : stored.search ≡ follows.search
+  pub from :
+      IsOrigin before said follows.provider follows.search stored.number stored.origin
+  pub of_root : IfSome stored.origin (IsOfRoot before follows.search stored.entries)
 
 -- an `opened` or a `refused` line: of the cookie that the consumer holds then, its
 -- provider can say this
 pub record OfCookie
     (before : List Order) (said : List ReportLine) (consumer : List ℕ)
     (Says : Bool → ℕ → List Write → Option (List ℕ) → Type 0) : Type 0 where
-  pub provider : List ℕ
-  pub search : Search
-  pub reload : Bool
-  pub follows : IsConsumer before consumer provider search reload
-  pub history : ℕ
-  pub writes : List Write
-  pub accepted : AreWritesOf before said provider history writes
-  pub says : Says reload history writes (known_of consumer said).cookie
+  pub follows : FollowsWrites before said consumer
+  pub says : Says follows.reload follows.history follows.writes (known_of consumer said).cookie
 
 -- all that was sent since an opening, this message too, is a prefix of the messages of a search
 -- from the cookie that was held then over these writes, or such a prefix and the end with busy.
@@ -426,7 +428,7 @@ pub record OfCookie
 -- names what the write that it reports of changed
 pub record IsNextOf
     (history : ℕ) (search : Search) (writes : List Write)
-    (opening : Opening) (octets : List ℕ) : Type 0 where
+    (opening : ReportedOpening) (octets : List ℕ) : Type 0 where
   pub start : Start
   pub begins : BeginsFrom history (take opening.writes writes) opening.cookie (number_of start)
   pub count : ℕ
@@ -444,7 +446,7 @@ pub record IsNextOf
       → sent_entry message ≡ Some entry
       → among entry.uuid (touched_over history writes number opening.writes) ≡ true
   pub changes : length (refresh_over history search writes opening start) ≤ length earlier
-      → (message ≡ busy)
+      → (message ≡ busy_end)
       ⊎ ReportsChange (session_over history search writes opening)
       (refresh_over history search writes opening start) opening.writes
       (length writes) earlier message
@@ -452,30 +454,20 @@ pub record IsNextOf
 -- a `sent` line
 pub record IsOfStream
     (before : List Order) (said : List ReportLine) (consumer octets : List ℕ) : Type 0 where
-  pub provider : List ℕ
-  pub search : Search
-  pub reload : Bool
-  pub follows : IsConsumer before consumer provider search reload
-  pub history : ℕ
-  pub writes : List Write
-  pub accepted : AreWritesOf before said provider history writes
-  pub opening : Opening
+  pub follows : FollowsWrites before said consumer
+  pub opening : ReportedOpening
   pub latest : (known_of consumer said).opening ≡ Some opening
-  pub next : IsNextOf history search writes opening octets
+  pub next : IsNextOf follows.history follows.search follows.writes opening octets
 
 -- a `settled` line: it reports the number of the provider's accepted writes, and the entries that
 -- the consumer's last `stored` line reported are what it wants of all of them
 pub record IsSettled
     (before : List Order) (said : List ReportLine) (consumer : List ℕ) (n : ℕ) : Type 0 where
-  pub provider : List ℕ
-  pub search : Search
-  pub reload : Bool
-  pub follows : IsConsumer before consumer provider search reload
-  pub history : ℕ
-  pub writes : List Write
-  pub accepted : AreWritesOf before said provider history writes
-  pub all : n ≡ length writes
-  pub exactly : (known_of consumer said).entries ≡ select search (entries_after history writes)
+  pub follows : FollowsWrites before said consumer
+  pub all : n ≡ length follows.writes
+  pub exactly :
+      (known_of consumer said).entries
+      ≡ select follows.search (entries_after follows.history follows.writes)
 
 -- what is shown of a root or a replica: the entries after all its accepted writes
 pub record IsDirectoryShown

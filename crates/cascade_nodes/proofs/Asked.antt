@@ -42,9 +42,11 @@ by_request : (p : ProviderState) (ask : SyncSearch) (request : Result SyncReques
 by_request p ask (Err fault) = refl
 by_request p ask (Ok request) = refl
 
+-- what answers a search of a script is what the provider answers to it
 pub answered : (p : ProviderState) (ask : SyncSearch) (answer : Accepted) → accepting.AnswersAccept answer (accepting.answer_to p.directory p.searches ask) → accepting.AnswersAccept answer (answer_to p (search_of ask.spec) ask.control)
 answered p ask answer h = subst (accepting.AnswersAccept answer) (by_request p ask (request_of ask.control)) h
 
+-- after a search of a script is accepted all searches still have its message ID
 pub accepted_ours : (p : ProviderState) (ask : SyncSearch) (answer : Accepted) → ask.id ≡ message_id → AreOurs p.searches → AreOurs (accepting.after_answer p.directory p.searches ask answer)
 accepted_ours p ask (accepted.Opened number writes) id ours = each-opened IsOurs p.searches number _ ours id
 accepted_ours p ask (accepted.Refused code) id ours = ours
@@ -107,6 +109,7 @@ committed_ours_by p op now (Some fault) ours = ours
 committed_ours : (p : ProviderState) (puts : List Entry) (drops : List ℕ) (now : ℕ) → AreOurs p.searches → AreOurs (committed p puts drops now).searches
 committed_ours p puts drops now ours = committed_ours_by p (Commit puts drops) now (commit_refusal p.kind p.directory puts drops now) ours
 
+-- so they have after some commits
 pub each_committed_ours : (p : ProviderState) (commits : List StagedCommit) (now : ℕ) → AreOurs p.searches → AreOurs (committed_each p commits now).searches
 each_committed_ours p [] now ours = ours
 each_committed_ours p (commit ∷ commits) now ours =
@@ -117,6 +120,7 @@ found_ours : (es : List (ℕ × SearchState)) (number : ℕ) (found : Option Sea
 found_ours es number None at ours = tt
 found_ours es number (Some s) at ours = each-at IsOurs es number s ours at
 
+-- the search of a snapshot had it too
 pub ours_then : (p : ProviderState) (snapshot : KeptSearch) (number : ℕ) → snapshot ≡ snapshot_of p number → AreOurs p.searches → IfSome snapshot.search IsOurs
 ours_then p snapshot number is ours = subst (λ (m : KeptSearch). IfSome m.search IsOurs) (sym is) (found_ours p.searches number (search_at p.searches number) refl ours)
 
@@ -143,10 +147,12 @@ after_ours es number (Closes code message) ours = each-closed IsOurs es number o
 after_ours es number Waits ours = ours
 after_ours es number Unknown ours = ours
 
+-- so they have after a hand-out
 pub turn_ours : (es : List (ℕ × SearchState)) (number : ℕ) (turn : Option HandOut) → AreOurs es → AreOurs (after_a_turn es number turn)
 turn_ours es number None ours = ours
 turn_ours es number (Some turn) ours = after_ours es number turn ours
 
+-- so they have after one of them is closed
 pub dropped_ours : (es : List (ℕ × SearchState)) (number : ℕ) → AreOurs es → AreOurs (closed es number)
 dropped_ours es number ours = each-closed IsOurs es number ours
 
@@ -189,6 +195,7 @@ spelled_as turn handed.Nothing has is = tt
 spelled_as turn handed.NoSuchSearch has is = tt
 spelled_as turn handed.NoMemory has is = tt
 
+-- what is handed out of such a search has an encoding
 pub spelled : (es : List (ℕ × SearchState)) (number : ℕ) (found : Handed) → AreOurs es → IfSome (turn_of found) (λ turn. turn ≡ turn_at es number) → IsSpelled found
 spelled es number found ours is = spelled_as (turn_at es number) found (turn_spelled es number ours) is
 

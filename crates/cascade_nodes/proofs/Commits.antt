@@ -138,6 +138,8 @@ one_limit : (limit : Option ℕ) (number : ℕ) → option_map (λ n. fault.Limi
 one_limit None number is = let never : ⊥ = cc in absurd never
 one_limit (Some other) number is = cc
 
+-- where nothing refuses the commits of some stages, the node has committed all of them, each with
+-- its origin
 pub all_committed : (now : ℕ) (wants : Search) (provider_node after : ProviderNode) (stages : List StoredStage) (commits : List StagedCommit) (notes : List CommitOrigin) → CanCommit provider_node stages → commits ≡ map commit_of stages
     → notes ≡ map (note_of wants) stages → refusal_of_each provider_node.provider commits now ≡ None → after.name ≡ provider_node.name → after.provider ≡ committed_each provider_node.provider commits now
     → after.notes ≡ provider_node.notes ++ notes → commits_all now wants provider_node stages ≡ Ok after
@@ -149,6 +151,7 @@ all_committed now wants provider_node after stages commits notes can same noted 
     let notes' : provider_node.notes ++ map (note_of wants) stages ≡ after.notes = sym (kept ∙ ap (λ ns. provider_node.notes ++ ns) noted) in
     ap (commits_by now wants provider_node stages) none' ∙ λ i. Ok (record { name = name' i; provider = provider' i; notes = notes' i })
 
+-- where one of them is refused, the node is as before, and the cause is reported
 pub none_committed : (now : ℕ) (wants : Search) (provider_node : ProviderNode) (stages : List StoredStage) (commits : List StagedCommit) (found : CommitFault) (reported : Cause) → CanCommit provider_node stages → commits ≡ map commit_of stages
     → RejectsCommit (refusal_of_each provider_node.provider commits now) found → IsCauseOf found reported → Leaves (commits_all now wants provider_node stages) provider_node (Err reported)
 none_committed now wants provider_node stages commits found reported can same opposed is = by found opposed is
@@ -161,6 +164,7 @@ none_committed now wants provider_node stages commits found reported can same op
     by fault.NotAReplica against reports = absurd reports
     by fault.NoMemory against reports = subst (λ c. Leaves (commits_all now wants provider_node stages) provider_node (Err c)) (sym reports) tt
 
+-- of stages that can be committed none is refused but for a limit
 pub only_a_limit : (now : ℕ) (provider_node : ProviderNode) (stages : List StoredStage) (commits : List StagedCommit) (found : CommitFault) → CanCommit provider_node stages → commits ≡ map commit_of stages
     → RejectsCommit (refusal_of_each provider_node.provider commits now) found → IsLimit found
 only_a_limit now provider_node stages commits found can same = by found

@@ -60,6 +60,7 @@ first_popped (e ∷ es) new number message first is =
     let rest : new ≡ es = is ∙ ap (λ b. cond b es (e ∷ remove_entry (is_at (nat_cmp number)) es)) (is_at-same number e.0 one) in
     λ i. (sym (ap (λ x. x.1) own)) i ∷ values_of (sym rest i)
 
+-- a link without the pair of its least number is a link without its first message
 pub first_dropped : (es new : Numbered) (number : ℕ) (message : List ℕ) → Some (number, message) ≡ slice_get es 0 → new ≡ remove_entry (is_at (nat_cmp number)) es → values_of new ≡ drop 1 (values_of es)
 first_dropped es new number message first is = sym (ap (λ (link : List (List ℕ)). drop 1 link) (first_popped es new number message first is))
 
@@ -68,6 +69,7 @@ pub none_there : (es : Numbered) → None ≡ slice_get es 0 → values_of es �
 none_there [] none = refl
 none_there (e ∷ es) none = cc
 
+-- an empty link stays empty
 pub none_dropped : (es : Numbered) → None ≡ slice_get es 0 → values_of es ≡ drop 1 (values_of es)
 none_dropped [] none = refl
 none_dropped (e ∷ es) none = cc

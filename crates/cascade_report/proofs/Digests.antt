@@ -12,6 +12,7 @@ use Rattle.sync_consumer.specs.Staging.{up_to}
 use Rattle.cascade_report.specs.Digests.{prefix, HasDigested}
 use Rattle.cascade_report.specs.ReportLines.{entry_text, text_of}
 
+-- a hasher that has taken nothing has taken the text of no entries
 pub nothing_digested : (hasher : Sha256) → Holds256 hasher [] → Holds256 hasher (text_of [])
 unfolding text_of
 nothing_digested hasher has = has
@@ -38,10 +39,13 @@ pub all_digested : (old new : Sha256) (reached greatest : Option ℕ) (held rest
 all_digested old new reached greatest held rest has split more some none =
     subst (Holds256 new) (joined reached held rest split ∙ sym (ap text_of (whole_prefix greatest held some none))) (more (text_of (prefix reached held)) has)
 
+-- what a hasher has taken of the first entries, with the text of the others, gives the digest of
+-- all
 pub digest_is : (old : Sha256) (reached : Option ℕ) (held rest : List Entry) (digest : List ℕ) → HasDigested old reached held → prefix reached held ++ rest ≡ held
     → ((m : List ℕ) → Holds256 old m → digest ≡ sha256 (m ++ text_of rest)) → digest ≡ sha256 (text_of held)
 digest_is old reached held rest digest has split more = more (text_of (prefix reached held)) has ∙ ap sha256 (joined reached held rest split)
 
+-- an equal hasher has taken the same text
 pub same_digested : (old new : Sha256) (reached : Option ℕ) (held : List Entry) → new ≡ old → HasDigested old reached held → HasDigested new reached held
 same_digested old new reached held same has = subst (λ (h : Sha256). HasDigested h reached held) (sym same) has
 

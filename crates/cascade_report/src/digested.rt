@@ -1,12 +1,10 @@
 //! Consumers with the digest of what they hold.
-ghost use Rattle.std.specs.Prelude.{◌≡◌, ◌++◌, ℕ, nat_lt, List, Ok, None, Some, map, IfOk, OnOk, OnErr, IsTrue};
+ghost use Rattle.std.specs.Prelude.{◌≡◌, ◌++◌, ℕ, nat_lt, List, None, Some, map, IfOk, OnOk, OnErr, IsTrue};
 ghost use Rattle.entry_tree.specs.Selection.{search_of};
 ghost use Rattle.ldap_messages.specs.Whole.{message_value};
 ghost use Rattle.sha2.specs.Hashers.{Holds256};
 ghost use Rattle.sha2.specs.Sha256.{sha256};
 ghost use Rattle.sync_model.specs.Copy as model;
-ghost use Rattle.sync_messages.specs.Request.{request_of, request_octets};
-ghost use Rattle.sync_wire.specs.Requesting.{persists};
 ghost use Rattle.sync_consumer.specs.Taking as taking;
 ghost use Rattle.std.specs.List.{list_all};
 ghost use Rattle.sync_consumer.specs.Staging.{is_above, up_to};
@@ -101,11 +99,8 @@ impl DigestedConsumer {
     pub fn request(&mut self, id: u32, mode: Mode) -> Result<Message, NoMemory>
         ensures message { IfOk result
             (λ message. message_value message ≡ taking.request_of self.old id mode) }
-        ensures read_again { IfOk result (λ message.
-            request_of (request_octets (taking.asked_of self.old mode))
-            ≡ Ok (taking.asked_of self.old mode)) }
-        ensures ok { OnOk result (self.new
-            ≡ record self.old { copy = model.asked id (persists mode) self.old.copy }) }
+        ensures read_again { IfOk result (λ message. taking.IsReadAgain self.old mode) }
+        ensures ok { OnOk result (self.new ≡ taking.requesting self.old id mode) }
         ensures err { OnErr result (self.new ≡ self.old) }
     {
         self.consumer.request(id, mode)

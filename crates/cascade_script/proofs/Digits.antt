@@ -10,6 +10,7 @@ value_from : (digits : List ℕ) (value : ℕ) → value ≤ fold (λ value digi
 value_from [] value = omega arith
 value_from (d ∷ digits) value = let more = value_from digits (value * 10 + (d - 48)) in omega arith
 
+-- the first digits of a number are of no greater number
 pub value_of-first_part : (digits : List ℕ) (n : ℕ) → value_of (take n digits) ≤ value_of digits
 value_of-first_part digits n =
     let parts : value_of (take n digits ++ drop n digits) ≡ fold (λ value digit. value * 10 + (digit - 48)) (value_of (take n digits)) (drop n digits) =

@@ -15,6 +15,7 @@ up_to_last-mark mark b (x ∷ bs) hit =
     let there : list_any (λ c. c == mark) ((x ∷ bs) ++ b ∷ []) ≡ true = list_any-append (λ c. c == mark) (x ∷ bs) (b ∷ []) ∙ rw hit (or-true _) in
     rw there (ap (λ l. x ∷ l) (up_to_last-mark mark b bs hit))
 
+-- another byte at the end changes nothing
 pub up_to_last-other : (mark b : ℕ) (bs : List ℕ) → (b == mark) ≡ false → up_to_last mark (bs ++ b ∷ []) ≡ up_to_last mark bs
 up_to_last-other mark b [] miss = rw miss refl
 up_to_last-other mark b (x ∷ bs) miss =
@@ -27,6 +28,7 @@ up_to_last-more mark bytes i l is =
     let more = take_more bytes i 0 l in
     more ∙ sym (up_to_last-mark mark (get_or bytes i 0) (take i bytes) (eq-eqb _ _ is)) ∙ ap (up_to_last mark) (sym more)
 
+-- nor does it, one byte after another
 pub up_to_last-same : (mark : ℕ) (bytes first_part : List ℕ) (i : ℕ) → i < length bytes → get_or bytes i 0 ≢ mark → first_part ≡ up_to_last mark (take i bytes) → first_part ≡ up_to_last mark (take (i + 1) bytes)
 up_to_last-same mark bytes first_part i l not so_far =
     let other : (get_or bytes i 0 == mark) ≡ false = grind (arith, nat_tests) in

@@ -57,6 +57,7 @@ IsCut-first_part first_part rest is = record {
 is_first : (text rest : List ℕ) → (cut 10 text).1 ≡ Some rest → (other : List ℕ) → lines ((cut 10 text).0 ++ 10 ∷ other) ≡ strip_carriage_return (cut 10 text).0 ∷ lines other
 is_first text rest e other = lines-first (cut 10 text).0 other (cut-others 10 text rest other e)
 
+-- after a line and its line feed
 pub IsCut-line : (text line rest : List ℕ) → line ≡ (cut 10 text).0 → Some rest ≡ (cut 10 text).1 → IsCutAt text (length line + 1)
 IsCut-line text line rest first_part back =
     let e = sym back in
@@ -71,6 +72,7 @@ one-line text line rest first_part back =
     let piece : take (length f + 1) text ≡ f ++ 10 ∷ [] = ap (take (length f + 1)) (cut-whole 10 text rest e) ∙ take-append-add f (10 ∷ rest) 1 in
     rw first_part (ap (λ t. length (lines t)) piece ∙ ap length (is_first text rest e []))
 
+-- both are in the text
 pub within-line : (text line rest : List ℕ) → line ≡ (cut 10 text).0 → Some rest ≡ (cut 10 text).1 → length line + 1 ≤ length text
 within-line text line rest first_part back =
     let whole = cut-whole 10 text rest (sym back) in
@@ -113,6 +115,7 @@ some_lines text l = by_cut (cut 10 text).1 refl
 
 -- ---- n first lines
 
+-- up to the cut there are as many lines, and after it there is one more at least
 pub more_lines : (text : List ℕ) (at count : ℕ) → IsCutAt text at → at < length text → length (lines (take at text)) ≡ count
     → (lines (take at text) ≡ take count (lines text)) × (nat_lt count (length (lines text)) ≡ true)
 more_lines text at count c l n =
@@ -137,10 +140,12 @@ body_of-next text line rest at more c d one is =
     one_first (x ∷ []) ys zs z e f = (cc, cc)
     one_first (x ∷ y ∷ xs) ys zs z e f = absurd (omega (arith, e))
 
+-- a line with a byte is not empty
 pub filled_line : (line : List ℕ) → 0 < length line → is_empty line ≡ false
 filled_line [] l = absurd (omega arith)
 filled_line (b ∷ line) l = refl
 
+-- a line that is not empty is one of the record
 pub body-more : (text line : List ℕ) (rest : List (List ℕ)) (at more : ℕ) → IsCutAt text at → IsCutAt (drop at text) more → length (lines (take more (drop at text))) ≡ 1
     → lines (drop at text) ≡ line ∷ rest → is_empty line ≡ false
     → body_of (lines text) ≡ lines (take at text) ++ body_of (lines (drop at text)) → body_of (lines text) ≡ lines (take (at + more) text) ++ body_of (lines (drop (at + more) text))
@@ -149,6 +154,7 @@ body-more text line rest at more c d one is filled so_far =
     let here : body_of (lines (drop at text)) ≡ line ∷ body_of rest = ap body_of is ∙ rw filled refl in
     rw (next.0, next.1) (so_far ∙ ap (λ t. lines (take at text) ++ t) here ∙ sym (append_assoc (lines (take at text)) (line ∷ []) (body_of rest)))
 
+-- and what stands after the record stands after it
 pub after-more : (text line : List ℕ) (rest : List (List ℕ)) (at more : ℕ) → IsCutAt text at → IsCutAt (drop at text) more → length (lines (take more (drop at text))) ≡ 1
     → lines (drop at text) ≡ line ∷ rest → is_empty line ≡ false
     → after_body (lines (drop at text)) ≡ after_body (lines (drop (at + more) text))
@@ -158,6 +164,7 @@ after-more text line rest at more c d one is filled =
 
 -- ---- no more lines than the most
 
+-- all lines up to the limit were kept
 pub all_lines : (first_part kept text : List ℕ) (whole most : ℕ) → first_part ≡ take whole text → take whole text ≡ kept → nat_lt most (length (lines first_part)) ≡ false
     → lines (take whole text) ≡ take most (lines kept)
 all_lines first_part kept text whole most is same few =

@@ -6,10 +6,12 @@ use Rattle.std.specs.Option.{MatchOption}
 use Rattle.ldif_text.specs.Field.{shown}
 use Rattle.cascade_script.specs.Words.{stripped}
 
+-- without a prefix that is there, the rest
 pub stripped_prefix : (prefix rest : List ℕ) → stripped prefix (prefix ++ rest) ≡ Some rest
 stripped_prefix [] rest = refl
 stripped_prefix (p ∷ prefix) rest = rw (eq-eqb p p refl) (stripped_prefix prefix rest)
 
+-- nothing where it is not there
 pub none_stripped : (prefix bytes : List ℕ) → ((rest : List ℕ) → bytes ≢ prefix ++ rest) → None ≡ stripped prefix bytes
 none_stripped [] bytes h = absurd (h bytes refl)
 none_stripped (p ∷ prefix) [] h = refl

@@ -10,6 +10,7 @@ use Rattle.cascade_script.specs.declared.fault.Cause.{Cause}
 use Rattle.cascade_script.specs.Words.{is_empty}
 use Rattle.cascade_script.proofs.LineCuts.{some_lines}
 
+-- there are no more lines after it than before it
 pub after_body-short : (lines : List (List ℕ)) → length (after_body lines) ≤ length lines
 after_body-short [] = omega arith
 after_body-short (line ∷ lines) =
@@ -22,6 +23,7 @@ before_some : (limit : Option ℕ) (rest : List (List ℕ)) → 0 < length rest 
 before_some limit [] l = absurd (omega arith)
 before_some limit (line ∷ rest) l = refl
 
+-- where a byte is left no limit was met
 pub limit_before-more : (bytes : List ℕ) (at : ℕ) (limit : Option ℕ) → at < length bytes → None ≡ limit_before limit (lines (drop at bytes))
 limit_before-more bytes at limit l = before_some limit (lines (drop at bytes)) (some_lines (drop at bytes) (omega (arith, length-drop at bytes)))
 

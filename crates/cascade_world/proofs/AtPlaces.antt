@@ -97,6 +97,7 @@ some_stages (stage ∷ stages) count long some none = cc
 
 -- ---- the two after it
 
+-- the consumer at its place is as the exchange left it
 pub consumer_after : (state mid : WorldState) (j i : ℕ) (part : Agreement → ExchangeOutcome) (result : Result Performed Cause) (at : PerformsAt state j i part mid result) → i < length state.consumer_nodes → slice_get mid.consumer_nodes i ≡ Some at.consumer
 consumer_after state mid j i part result at low =
     let long : length (set state.consumer_nodes i at.consumer) ≡ length state.consumer_nodes = length-set state.consumer_nodes i at.consumer in

@@ -194,6 +194,7 @@ module _ (state : WorldState) (name : List ℕ) (f : ConsumerNode) (r : Provider
       let before = begun.own was.was (ap (provider_nodes_by state.provider_nodes) name_is ∙ was.there) in
       record { kind = was.kind ∙ before.kind; entries = was.entries ∙ before.entries }
 
+  -- the stages of an event can be committed at the replica whose consumer took them
   pub can_commit : OwnCanCommit mid stages g
   can_commit own there =
       let before = own_holds own there in
@@ -274,6 +275,7 @@ module _ (state : WorldState) (name : List ℕ) (f : ConsumerNode) (r : Provider
       by (Ok own') is = own_kept own own' there (has_committed mid.clock g.consumer.spec own own' stages is)
       by (Err cause) is = tt
 
+  -- after an exchange and its commits each replica's directory is in step with its consumer
   pub pair_keeps : StepKeeps (with_lines lines (commits_of mid g stages))
   pair_keeps = committed_keeps (provider_node_named g.name mid) refl
 
@@ -330,6 +332,7 @@ after_keeps name source (Err cause) steady = tt
 
 -- ---- each order
 
+-- after each order they are in step
 pub step_keeps : (state : WorldState) (order : Order) → AreInStep state → StepKeeps (step state order)
 step_keeps state (asks.Provider name suffix) steady =
     lookup.root_declared StepKeeps (λ cause. tt) state name suffix (λ new room. provider_node_declared state (state.nodes + 1) (new_provider_node state Root name suffix) (is_new state name new).consumer_node steady)
@@ -357,6 +360,7 @@ step_keeps state (asks.Show name) steady = lookup.if_found StepKeeps (show_of st
 
 -- ---- the world
 
+-- where there are no nodes, they are in step
 pub none_in_step : (state : WorldState) → state ≡ no_nodes → AreInStep state
 none_in_step state none = subst AreInStep (sym none) (λ name f found. let never : ⊥ = cc in absurd never)
 

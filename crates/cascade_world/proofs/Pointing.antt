@@ -153,6 +153,7 @@ step_at : (name : List ℕ) (i : ℕ) (next : StepOutcome) (mid : WorldState) (t
 step_at name i (Ok next) mid text at h = ap (λ (s : WorldState). position (is_consumer_node name) s.consumer_nodes) h.0 ∙ at
 step_at name i (Err cause) mid text at h = absurd h
 
+-- after an exchange the consumer stands at the place at which it stood
 pub still_at : (state mid : WorldState) (name : List ℕ) (i : ℕ) (what : Exchange) (text : List ℕ) → position (is_consumer_node name) state.consumer_nodes ≡ Some i → DoesStep (exchange state name (part_of what)) mid (Ok text)
     → position (is_consumer_node name) mid.consumer_nodes ≡ Some i
 still_at state mid name i what text e h = step_at name i (exchange state name (part_of what)) mid text (exchanged_at state name i what e) h

@@ -13,10 +13,12 @@ use Rattle.cascade_report.specs.ReportLines.ReportLine.{Shown}
 use Rattle.cascade_world.specs.World.{WorldState, StepOutcome, IsStep, step, is_provider_node, is_consumer_node, consumer_node_named, shown_of, show_of}
 use Rattle.cascade_world.proofs.Places.{found_at}
 
+-- a `show` of a provider shows the entries after all its writes
 pub shown_provider_node : (state : WorldState) (name : List ℕ) (i : ℕ) (r : ProviderNode) → position (is_provider_node name) state.provider_nodes ≡ Some i → r ≡ get_or state.provider_nodes i r
     → step state (Show name) ≡ Ok (state, Shown name (entries_of r.provider.directory) ∷ [])
 shown_provider_node state name i r e is = ap (λ o. show_of state name (shown_of o (consumer_node_named name state))) (found_at (is_provider_node name) state.provider_nodes i r e is)
 
+-- a `show` of a consumer shows the entries that it holds
 pub shown_consumer_node : (state : WorldState) (name : List ℕ) (i : ℕ) (f : ConsumerNode) → position (is_provider_node name) state.provider_nodes ≡ None → position (is_consumer_node name) state.consumer_nodes ≡ Some i → f ≡ get_or state.consumer_nodes i f
     → step state (Show name) ≡ Ok (state, Shown name f.consumer.copy.held ∷ [])
 shown_consumer_node state name i f none e is =

@@ -8,14 +8,14 @@ ghost use Rattle.cascade_world.specs.Places.{ArePlaces, PerformsAt};
 ghost use Rattle.cascade_world.specs.World as spec;
 ghost use Rattle.cascade_world.specs.World.{DoesStep};
 
-use crate::nodes::Nodes;
+use crate::nodes::ScriptNodes;
 use crate::world::Lines;
 use cascade_exchange::{Exchange, Performed, perform_exchange};
 use cascade_report::StoredStage;
 use cascade_script::Cause;
 use ldap_ber::{Octets, discard};
 
-impl Nodes {
+impl ScriptNodes {
     /// Does what goes on between a consumer and its provider, and then the commits of a replica.
     /// After a refusal the world is as before.
     pub(crate) fn exchange(&mut self, name: Octets, exchange: Exchange) -> Result<Lines, Cause>

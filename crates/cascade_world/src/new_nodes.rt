@@ -6,7 +6,7 @@ ghost use Rattle.cascade_script.specs.Orders.{Order as order};
 ghost use Rattle.cascade_world.specs.World as spec;
 ghost use Rattle.cascade_world.specs.World.{DoesStep};
 
-use crate::nodes::{Nodes, no_lines};
+use crate::nodes::{ScriptNodes, no_lines};
 use crate::world::Lines;
 use cascade_exchange::MOST_NODES;
 use cascade_nodes::{ConsumerNode, ProviderNode};
@@ -17,7 +17,7 @@ use ldap_ber::{NoMemory, Octets, discard};
 use std::alloc::AllocError;
 use sync_provider::Kind;
 
-impl Nodes {
+impl ScriptNodes {
     /// The number of the next node, where there is room for one.
     fn next_number(&self) -> Result<u16, Cause>
         ensures ok { IfOk result (λ number.

@@ -27,7 +27,7 @@ use sync_messages::Mode;
 
 /// The nodes of a script, and the time that their clocks show.
 #[derive(Drop)]
-pub struct Nodes {
+pub struct ScriptNodes {
     pub(crate) alloc: Global,
     pub(crate) clock: u64,
     /// How many nodes are declared: a replica is one, and has a directory and a consumer.
@@ -38,7 +38,7 @@ pub struct Nodes {
 
 /// Contracts see the time, the number of nodes, and the directories and the consumers, each in the
 /// order of their declaration.
-impl Model for Nodes {
+impl Model for ScriptNodes {
     ghost use Rattle.std.specs.Prelude.{◌≡◌, ◌+◌, ◌≤◌, length};
     ghost use Rattle.std.specs.Coded.{codes};
     ghost use Rattle.cascade_nodes.specs.contracts.node.ProviderNode as provider_node;
@@ -60,12 +60,12 @@ impl Model for Nodes {
     ghost invariant = { λ w. w.nodes ≤ most_nodes };
 }
 
-impl Nodes {
+impl ScriptNodes {
     /// No node, and the first moment of 1970.
-    pub(crate) fn new(alloc: Global) -> Nodes
+    pub(crate) fn new(alloc: Global) -> ScriptNodes
         ensures { result ≡ spec.no_nodes }
     {
-        Nodes {
+        ScriptNodes {
             alloc,
             clock: 0,
             nodes: 0,

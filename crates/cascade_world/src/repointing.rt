@@ -9,14 +9,14 @@ ghost use Rattle.cascade_world.specs.World as spec;
 ghost use Rattle.cascade_world.specs.World.{DoesStep};
 ghost use Rattle.cascade_world.specs.InStep.{AreInStep};
 
-use crate::nodes::Nodes;
+use crate::nodes::ScriptNodes;
 use crate::world::Lines;
 use cascade_exchange::Exchange;
 use cascade_script::Cause;
 use entry_tree::Spec;
 use ldap_ber::{NoMemory, Octets, discard};
 
-impl Nodes {
+impl ScriptNodes {
     /// A consumer follows another provider from now on: a busy one is cut, and keeps its cookie and
     /// its entries.
     pub(crate) fn repoint(&mut self, name: Octets, source: Octets) -> Result<Lines, Cause>

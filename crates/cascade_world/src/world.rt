@@ -4,7 +4,7 @@ ghost use Rattle.cascade_script.specs.Orders.{order_of};
 ghost use Rattle.cascade_world.specs.World as spec;
 ghost use Rattle.cascade_world.specs.World.{StepsBy};
 
-use crate::nodes::Nodes;
+use crate::nodes::ScriptNodes;
 use cascade_script::{Event, ScriptFault};
 use ldap_ber::{NoMemory, Octets};
 use std::alloc::Global;
@@ -17,7 +17,7 @@ pub type Lines = Octets;
 /// each stage that takes effect can be committed there, up to the limits of a directory's writes.
 #[derive(Drop)]
 pub struct World {
-    nodes: Nodes,
+    nodes: ScriptNodes,
 }
 
 /// Contracts see the nodes.
@@ -44,7 +44,7 @@ impl World {
         ensures { IfOk result (λ world. world ≡ spec.no_nodes) }
     {
         Ok(World {
-            nodes: Nodes::new(alloc),
+            nodes: ScriptNodes::new(alloc),
         })
     }
 

@@ -181,6 +181,7 @@ spelled-cookie_of_text text cookie is spells =
       lower_number_at-field 32 cookie.history [] is.history,
     ) refl
 
+-- the canonical text of a cookie spells it
 pub cookie_text-spelled : (cookie : Cookie) → IsCookieSpelling cookie (cookie_text cookie)
 unfolding cookie_text
 cookie_text-spelled cookie = record { csn = csn_text cookie.csn; spells = lower-csn_text cookie.csn; round = refl }
@@ -199,10 +200,12 @@ pub parsed_spelled : {E : Type 0} (r : Result Cookie E) (text : List ℕ) → re
 parsed_spelled (Ok cookie) text h = (cookie_of_text-spelled text cookie (sym h)).1
 parsed_spelled (Err e) text h = tt
 
+-- a cookie that was read is within its bounds
 pub parsed_bounds : {E : Type 0} (r : Result Cookie E) (text : List ℕ) → result_ok r ≡ cookie_of_text text → IfOk r IsCookie
 parsed_bounds (Ok cookie) text h = (cookie_of_text-spelled text cookie (sym h)).0
 parsed_bounds (Err e) text h = tt
 
+-- a text that spells a cookie is read as that cookie
 pub parsed_only : {E : Type 0} (r : Result Cookie E) (text : List ℕ) → result_ok r ≡ cookie_of_text text
     → (cookie : Cookie) → IsCookie cookie → IsCookieSpelling cookie text → r ≡ Ok cookie
 parsed_only (Ok x) text h cookie is spells = ap Ok (same_Some x cookie (h ∙ spelled-cookie_of_text text cookie is spells))

@@ -36,12 +36,14 @@ lower_digit-digit_glyph d small = grind (arith, nat_tests)
 
 -- digits in either case
 
+-- the number of digits does not depend on their case
 pub digits_value_after-lower : (base n : ℕ) (text : List ℕ) → digits_value_after base n (map lower_digit text) ≡ digits_value_after base n text
 digits_value_after-lower base n [] = refl
 digits_value_after-lower base n (c ∷ text) =
     digits_value_after-lower base (n * base + digit_value (lower_digit c)) text
     ∙ ap (λ v. digits_value_after base (n * base + v) text) (digit_value-lower_digit c)
 
+-- nor does it whether they are digits
 pub are_digits-lower : (base : ℕ) (text : List ℕ) → are_digits base (map lower_digit text) ≡ are_digits base text
 are_digits-lower base [] = refl
 are_digits-lower base (c ∷ text) = rw (digit_value-lower_digit c, are_digits-lower base text)
@@ -54,12 +56,14 @@ AllDigits-are_digits base (c ∷ text) h =
 
 -- a field
 
+-- a field is as wide as it is said to be
 pub length-field : (base width n : ℕ) → length (field base width n) ≡ width
 unfolding field
 length-field base zero n = refl
 length-field base (suc width) n =
     rw (length-append, length-field base width (n / base)) (omega arith)
 
+-- it has digits alone
 pub are_digits-field : (base width n : ℕ) → 2 ≤ base → base ≤ 16 → are_digits base (field base width n) ≡ true
 unfolding field
 are_digits-field base zero n low high = refl
@@ -69,6 +73,7 @@ are_digits-field base (suc width) n low high =
     rw (digit_value-digit_glyph (n % base) (omega arith)) (lt-ltb _ _ digit) in
     rw (list_all-append (λ c. is_digit c base) (field base width (n / base)) (digit_glyph false (n % base) ∷ []), are_digits-field base width (n / base) low high, last)
 
+-- they write its number
 pub digits_value-field : (base width n : ℕ) → 2 ≤ base → base ≤ 16 → n < base ^ width → digits_value base (field base width n) ≡ n
 unfolding field
 digits_value-field base zero n low high small = omega (arith, pow-zero base)
@@ -83,6 +88,7 @@ digits_value-field base (suc width) n low high small =
       digit_value-digit_glyph (n % base) digit,
     ) (div-add-mod' n base)
 
+-- they are in lower case
 pub lower-field : (base width n : ℕ) → 2 ≤ base → base ≤ 16 → map lower_digit (field base width n) ≡ field base width n
 unfolding field
 lower-field base zero n low high = refl

@@ -46,6 +46,7 @@ time_of_micros : (dt : DateTime) (micros : ℕ) → civil_nanos dt ≡ pos (micr
     → time_nanos dt.time ≡ micros % 86_400_000_000 * 1000
 time_of_micros dt micros e = omega (arith, signed_arith, civil_nanos-parts dt, time_nanos_bound dt.time, e)
 
+-- the parts of a time are those of its microseconds since 1970
 pub instant_of-civil_nanos : (dt : DateTime) (micros : ℕ) → civil_nanos dt ≡ pos (micros * 1000) → IsTimeOf dt (instant_of micros)
 instant_of-civil_nanos dt micros e =
     let date = date_after-epoch_day dt.date (micros / 86_400_000_000) (day_of_micros dt micros e) in
@@ -73,6 +74,7 @@ pub record Exists (m : Instant) : Type 0 where
   pub second : m.second < 60
   pub micro : m.micro < 1_000_000
 
+-- a time that exists has each part within its bounds
 pub exists-parts : (m : Instant) → exists m ≡ true → Exists m
 exists-parts m h =
     let micro = and_parts _ _ h in
@@ -97,6 +99,7 @@ exists-parts m h =
       micro = ltb-true _ _ micro.1;
     }
 
+-- one whose parts are within their bounds exists
 pub exists-from_parts : (m : Instant) → Exists m → exists m ≡ true
 exists-from_parts m is =
     rw (
@@ -138,6 +141,7 @@ are_same m d = record {
   nano = to_z_pos w32 (m.micro * 1000) (omega arith);
 }
 
+-- what can be a civil time from 1970 on exists
 pub CanBeTime-exists : (m : Instant) → HasDigits m → 1970 ≤ m.year → CanBeTime m → Exists m
 CanBeTime-exists m d late can =
     let same = are_same m d in
@@ -155,6 +159,7 @@ CanBeTime-exists m d late can =
       micro = d.micro;
     }
 
+-- what exists can be a civil time
 pub exists-CanBeTime : (m : Instant) → HasDigits m → Exists m → CanBeTime m
 exists-CanBeTime m d is =
     let same = are_same m d in
@@ -194,6 +199,7 @@ civil_nanos-of_parts m dt d late date time =
     number ∙ positive_is (days_from_civil (pos m.year) m.month m.day) (rw number at positive) in
     omega (arith, signed_arith, civil_nanos-parts dt, days)
 
+-- what holds of a result holds of what it is without its fault
 pub IfSome-result_ok : {T E : Type 0} (r : Result T E) (P : T → Type 0) → IfOk r P → IfSome (result_ok r) P
 IfSome-result_ok (Ok x) P h = h
 IfSome-result_ok (Err e) P h = tt

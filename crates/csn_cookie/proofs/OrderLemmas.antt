@@ -18,7 +18,8 @@ csn_cmp_total =
     (then_total (on_total (λ (c : CsnValue). c.count) nat_cmp_total)
     (then_total (on_total (λ (c : CsnValue). c.sid) nat_cmp_total) (on_total (λ (c : CsnValue). c.part) nat_cmp_total)))
 
-less_from : (o : Ordering) → is_lt o ≡ true → o ≡ Less
+-- what passes the test is less
+pub less_from : (o : Ordering) → is_lt o ≡ true → o ≡ Less
 less_from Less h = refl
 less_from Equal h = absurd cc
 less_from Greater h = absurd cc
@@ -35,6 +36,7 @@ is_upto-itself a = rw (tied_itself csn_cmp_total a) refl
 pub is_upto-before : (a b : CsnValue) → csn_cmp a b ≡ Less → is_upto a b ≡ true
 is_upto-before a b h = rw h refl
 
+-- a later CSN is not up to an earlier one
 pub is_upto-after : (a b : CsnValue) → csn_cmp a b ≡ Less → is_upto b a ≡ false
 is_upto-after a b h = rw (csn_cmp_total.antisymm b a, h) refl
 

@@ -35,6 +35,7 @@ spells_then {text} {a} {middle} {b} {rest} first second = record {
 
 -- the text after these bytes
 
+-- what is left after a prefix stands after it
 pub after-prefix : (prefix text rest : List ℕ) → after prefix text ≡ Some rest → text ≡ prefix ++ rest
 unfolding after
 after-prefix prefix text rest h =
@@ -43,6 +44,7 @@ after-prefix prefix text rest h =
       | inr other ↦ absurd (none-some rest (rw other at h))
     ]
 
+-- after a prefix that is there the rest is left
 pub prefix-after : (prefix rest : List ℕ) → after prefix (prefix ++ rest) ≡ Some rest
 unfolding after
 prefix-after prefix rest =
@@ -53,18 +55,21 @@ prefix-after prefix rest =
 abbrev pub IsMark : ℕ → Type 0
 IsMark m = (lower_digit m ≡ m) × ((c : ℕ) → lower_digit c ≡ m → c ≡ m)
 
+-- `#` is no digit in either case
 pub hash_mark : IsMark 35
 hash_mark = (refl, λ c e. hash c e)
   where
     hash : (c : ℕ) → lower_digit c ≡ 35 → c ≡ 35
     hash c e = grind (arith, nat_tests)
 
+-- nor is a point
 pub point_mark : IsMark 46
 point_mark = (refl, λ c e. point c e)
   where
     point : (c : ℕ) → lower_digit c ≡ 46 → c ≡ 46
     point c e = grind (arith, nat_tests)
 
+-- nor is `Z`
 pub zulu_mark : IsMark 90
 zulu_mark = (refl, λ c e. zulu c e)
   where

@@ -22,6 +22,7 @@ joined a b c d e f g rest = simp append_assoc
 abbrev pub SpellsInstant : List ℕ → List ℕ → Instant → Type 0
 SpellsInstant text rest m = HasDigits m × Spells text (instant_text m) rest
 
+-- what was read as a time spells it
 pub instant_at-spelled : (text rest : List ℕ) (m : Instant) → instant_at text ≡ Some (m, rest) → SpellsInstant text rest m
 unfolding instant_at instant_text
 instant_at-spelled text rest m h =
@@ -117,6 +118,7 @@ parts_joined a b c d rest = simp append_assoc
 abbrev pub SpellsCsn : List ℕ → List ℕ → CsnValue → Type 0
 SpellsCsn text rest csn = IsCsn csn × Spells text (csn_text csn) rest
 
+-- what was read as a CSN spells it
 pub csn_at-spelled : (text rest : List ℕ) (csn : CsnValue) → csn_at text ≡ Some (csn, rest) → SpellsCsn text rest csn
 unfolding csn_at csn_text
 csn_at-spelled text rest csn h =
@@ -136,6 +138,7 @@ csn_at-read : (text t₁ t₂ t₃ t₄ : List ℕ) (csn : CsnValue) → micros_
 unfolding csn_at
 csn_at-read text t₁ t₂ t₃ t₄ csn h₁ h₂ h₃ h₄ = rw (h₁, h₂, h₃, h₄) refl
 
+-- a text that spells a CSN is read as that CSN
 pub spelled-csn_at : (text lower : List ℕ) (csn : CsnValue) → IsCsn csn → map lower_digit text ≡ csn_text csn ++ lower → ReadsTo (csn_at text) csn lower
 unfolding csn_text
 spelled-csn_at text lower csn is e =
@@ -148,6 +151,7 @@ spelled-csn_at text lower csn is e =
 
 -- the whole of a text
 
+-- what is read of a whole text leaves nothing
 pub whole_is : {A : Type 0} (x y : A) (rest : List ℕ) → whole (x, rest) ≡ Some y → (x ≡ y) × (rest ≡ [])
 whole_is x y [] h = (same_Some x y h, refl)
 whole_is x y (c ∷ rest) h = absurd (none-some y h)
@@ -179,6 +183,7 @@ lower_decimal width n = lower-field 10 width n (omega arith) (omega arith)
 lower_hexadecimal : (width n : ℕ) → map lower_digit (field 16 width n) ≡ field 16 width n
 lower_hexadecimal width n = lower-field 16 width n (omega arith) (omega arith)
 
+-- the text of a CSN is in lower case
 pub lower-csn_text : (csn : CsnValue) → map lower_digit (csn_text csn) ≡ csn_text csn
 unfolding csn_text instant_text
 lower-csn_text csn = simp (map-append, lower_decimal, lower_hexadecimal)
@@ -197,10 +202,12 @@ pub parsed_spelled : {E : Type 0} (r : Result CsnValue E) (text : List ℕ) → 
 parsed_spelled (Ok csn) text h = (csn_of_text-spelled text csn (sym h)).1
 parsed_spelled (Err e) text h = tt
 
+-- a CSN that was read is within its bounds
 pub parsed_bounds : {E : Type 0} (r : Result CsnValue E) (text : List ℕ) → result_ok r ≡ csn_of_text text → IfOk r IsCsn
 parsed_bounds (Ok csn) text h = (csn_of_text-spelled text csn (sym h)).0
 parsed_bounds (Err e) text h = tt
 
+-- a text that spells a CSN is read as that CSN, and as no other
 pub parsed_only : {E : Type 0} (r : Result CsnValue E) (text : List ℕ) → result_ok r ≡ csn_of_text text
     → (csn : CsnValue) → IsCsn csn → IsSpelling csn text → r ≡ Ok csn
 parsed_only (Ok x) text h csn is spells = ap Ok (same_Some x csn (h ∙ spelled-csn_of_text text csn is spells))

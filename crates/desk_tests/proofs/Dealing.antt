@@ -9,6 +9,7 @@ use Rattle.sync_provider.specs.declared.journal_note.JournalNote.{JournalNote}
 use Rattle.shared_directory.specs.Desks.{NumberedState, HeldState}
 use Rattle.shared_directory.specs.Passes.{IsPassOf, AreFirst}
 
+-- each of the passes with which a directory is made is a pass of that directory
 pub all_dealt : {g : _} (cell : TableId) (ports : ℕ) (v : JournalledProvider) (number : ℕ) (passes : List (Pass HeldState JournalNote NumberedState g))
     → AreFirst cell ports v number passes → Every (λ pass. IsPassOf cell pass) passes
 all_dealt cell ports v number [] dealt = tt
@@ -18,8 +19,10 @@ module _ {X : Type 0} (P : X → Type 0) (old new : List X) (o : Option X) (x : 
   whole : Every P (new ++ x ∷ [])
   whole = subst (Every P) (is ∙ ap (λ o. new ++ option_to_list o) some) all
 
+  -- what holds of each holds of each but the last
   pub rest_of : Every P new
   rest_of = every-left P new (x ∷ []) whole
 
+  -- it holds of the last one
   pub last_of : P x
   last_of = every-at P new [] x whole

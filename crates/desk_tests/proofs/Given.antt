@@ -80,11 +80,14 @@ module _ (X : RattleType) (x : IsSend X) where
   abbrev pub four_worked : Declared
   four_worked = type_at (codes "(,)") (row two_worked ∷ row two_worked ∷ [])
 
+  -- what one thread hands back may come from there
   pub worked_send : IsSend (row worked)
   worked_send = declared_send worked (one_send, (as_row_send (row_field X) x, tt))
 
+  -- so may what two hand back
   pub two_worked_send : IsSend (row two_worked)
   two_worked_send = declared_send two_worked (worked_send, (worked_send, tt))
 
+  -- so may what four hand back
   pub four_worked_send : IsSend (row four_worked)
   four_worked_send = declared_send four_worked (two_worked_send, (two_worked_send, tt))

@@ -1,3 +1,3 @@
 pub mod Dealing
 pub mod Given
-pub mod Noted
+pub mod HandedBack

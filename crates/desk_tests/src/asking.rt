@@ -2,13 +2,18 @@
 //! wants it, there is no answer.
 ghost use Rattle.std.specs.Prelude.{◌≡◌};
 
+use crate::tasks::FollowedSearch;
 use dn_names::Dn;
 use entry_tree::{Scope, Spec, read_op};
 use ldap_ber::{Octets, OctetsList, discard};
 use ldap_filter::Filter;
 use schema_rules::{Change, RawAttribute, RawList};
 use std::alloc::Global;
-use sync_provider::{Accepted, Handed, PlainSearch, Port, Reply, SearchReply, SyncSearch};
+use sync_consumer::{Consumer, Taken};
+use sync_messages::Mode;
+use sync_provider::{
+    Accepted, HandOutStop, Handed, PlainSearch, Port, Reply, SearchReply, SyncSearch,
+};
 
 /// Adds `dc=x` where the name is empty, else a unit below it.
 pub(crate) fn add<P: Port>(alloc: Global, port: &mut P, unit: &str) -> Option<Reply>
@@ -24,12 +29,27 @@ pub(crate) fn add<P: Port>(alloc: Global, port: &mut P, unit: &str) -> Option<Re
 }
 
 fn addition(alloc: Global, unit: &str) -> Option<Change> {
-    if unit.is_empty() {
-        return added(alloc, "dc=x", "objectClass=organization,dcObject o=X dc=x");
-    }
-    let name = format!(in alloc; "ou={unit},dc=x").ok()?;
-    let attributes = format!(in alloc; "objectClass=organizationalUnit ou={unit}").ok()?;
+    let name = name_of(alloc, unit)?;
+    let attributes = attributes_of(alloc, unit)?;
     added(alloc, &name, &attributes)
+}
+
+/// The name of the entry that `add` adds.
+pub(crate) fn name_of(alloc: Global, unit: &str) -> Option<String> {
+    if unit.is_empty() {
+        return "dc=x".to_string(alloc).ok();
+    }
+    format!(in alloc; "ou={unit},dc=x").ok()
+}
+
+/// Its attributes.
+pub(crate) fn attributes_of(alloc: Global, unit: &str) -> Option<String> {
+    if unit.is_empty() {
+        return "objectClass=organization,dcObject o=X dc=x"
+            .to_string(alloc)
+            .ok();
+    }
+    format!(in alloc; "objectClass=organizationalUnit ou={unit}").ok()
 }
 
 fn added(alloc: Global, name: &str, attributes: &str) -> Option<Change> {
@@ -84,16 +104,31 @@ fn spec(alloc: Global, scope: Scope) -> Option<Spec> {
     })
 }
 
+/// The message ID of the searches that are followed.
+const SEARCH_ID: u32 = 7;
+
 /// Opens a search that goes on after its refresh (refreshAndPersist), without a cookie.
 pub(crate) fn follow<P: Port>(alloc: Global, port: &mut P) -> Option<Accepted>
     ensures { P.home port.new ≡ P.home port.old }
 {
     let control = octets(alloc, "\x30\x03\x0a\x01\x03")?;
     Some(port.accept(SyncSearch {
-        id: 7,
+        id: SEARCH_ID,
         spec: spec(alloc, Scope::Sub)?,
         control,
     }))
+}
+
+/// A consumer that has asked for that search.
+pub(crate) fn asked(alloc: Global) -> Option<Consumer> {
+    let mut consumer = Consumer::new(alloc, spec(alloc, Scope::Sub)?, false).ok()?;
+    match consumer.request(SEARCH_ID, Mode::RefreshAndPersist) {
+        Ok(request) => {
+            discard(request);
+            Some(consumer)
+        }
+        Err(_) => None,
+    }
 }
 
 /// `m` for a message, `e` for an end, `-` for nothing, `?` for no such search.
@@ -101,13 +136,60 @@ pub(crate) fn next<P: Port>(port: &mut P, search: u64) -> Option<char>
     ensures { P.home port.new ≡ P.home port.old }
 {
     let handed = port.hand_out(search);
-    let letter = match &handed {
+    let letter = letter_of(&handed);
+    discard(handed);
+    letter
+}
+
+fn letter_of(handed: &Handed) -> Option<char> {
+    match handed {
         Handed::Message(_) => Some('m'),
         Handed::Ended(_, _) => Some('e'),
         Handed::Nothing => Some('-'),
         Handed::NoSuchSearch => Some('?'),
         Handed::NoMemory => None,
+    }
+}
+
+/// The same of a search that is followed. Its consumer takes the message, and there is no answer
+/// where it does not go on after that.
+pub(crate) fn take_next<P: Port>(port: &mut P, search: &mut FollowedSearch) -> Option<char>
+    ensures { P.home port.new ≡ P.home port.old }
+{
+    let handed = port.hand_out(search.number);
+    let runs = match &handed {
+        Handed::Message(message) => goes_on(search.consumer.take(message)),
+        _ => true,
     };
+    let letter = letter_of(&handed);
     discard(handed);
-    letter
+    if runs { letter } else { None }
+}
+
+fn goes_on(taken: Taken) -> bool {
+    let runs = match &taken {
+        Taken::Staged | Taken::Stored(_) | Taken::Copied(_) => true,
+        Taken::Over(_) | Taken::Fault(_) | Taken::NoMemory => false,
+    };
+    discard(taken);
+    runs
+}
+
+/// How many messages come together, four at most, and why there are no more: `+` where there may
+/// be, else as `next` has it.
+pub(crate) fn several<P: Port>(alloc: Global, port: &mut P, search: u64) -> Option<(usize, char)>
+    ensures { P.home port.new ≡ P.home port.old }
+{
+    let room = Vec::with_capacity(alloc, 4).ok()?;
+    let given = port.hand_out_several(search, 4, room);
+    let count = given.messages.len();
+    let letter = match &given.stop {
+        HandOutStop::Enough => Some('+'),
+        HandOutStop::Ended(_, _) => Some('e'),
+        HandOutStop::Nothing => Some('-'),
+        HandOutStop::NoSuchSearch => Some('?'),
+        HandOutStop::NoMemory => None,
+    };
+    discard(given);
+    Some((count, letter?))
 }

@@ -4,6 +4,10 @@
 #[cfg(test)]
 mod asking;
 #[cfg(test)]
+mod copies;
+#[cfg(test)]
+mod gathering;
+#[cfg(test)]
 mod passing;
 #[cfg(test)]
 mod replaying;
@@ -13,4 +17,4 @@ mod tasks;
 #[cfg(test)]
 mod working;
 
-pub use tasks::{Task, Tried, Work};
+pub use tasks::{FollowedSearch, Noted, Task, Tried, Work};

@@ -1,10 +1,12 @@
 //! Desks of a shared directory: what they reply, what they have seen, and what stays.
 
-use crate::asking::{add, count, follow, next};
+use crate::asking::{add, count, follow, next, several};
+use crate::copies::are_copies;
+use crate::gathering::{Gathered, hand_in, hand_in_four};
 use crate::passing::{last_two, put_back, share};
 use crate::replaying::replays;
 use crate::tasks::{Task, Tried, Work};
-use crate::working::{accepted, hand_in, hand_in_four, rises, work_in_eight, work_in_two};
+use crate::working::{accepted, rises, work_in_eight, work_in_two};
 use dn_names::Dn;
 use entry_tree::{EntryList, Scope};
 use ldap_ber::discard;
@@ -84,6 +86,26 @@ fn a_search_is_of_the_desk_that_opened_it(rt: HostRuntime) -> Result<(), Fail> {
     Ok(())
 }
 
+/// What is pending at a desk comes in one turn.
+#[test]
+fn messages_come_together_at_a_desk(rt: HostRuntime) -> Result<(), Fail> {
+    let alloc = rt.alloc();
+    let provider = provider(alloc).ok_or("no provider")?;
+    let (directory, mut passes) = share(alloc, provider, 2).ok_or("no directory")?;
+    let (first, second) = last_two(&directory, &mut passes);
+    discard(second);
+    let mut desk = directory.desk(&rt, first);
+    let reply = add(alloc, &mut desk, "");
+    let opened = follow(alloc, &mut desk);
+    assert!(rt; reply == Some(Reply { code: 0, number: 1 }));
+    assert!(rt; opened == Some(Accepted::Opened(1, 1)));
+    let own = (several(alloc, &mut desk, 1), several(alloc, &mut desk, 1));
+    assert!(rt; own == (Some((2, '-')), Some((0, '-'))));
+    assert!(rt; several(alloc, &mut desk, 2) == Some((0, '?')));
+    discard(desk);
+    Ok(())
+}
+
 /// What changes nothing is answered at a desk, and a root takes no commit.
 #[test]
 fn a_desk_compares_and_counts(rt: HostRuntime) -> Result<(), Fail> {
@@ -138,11 +160,11 @@ fn two_threads_add_fifty_units_each(rt: HostRuntime) -> Result<(), Fail> {
     let pair = last_two(&directory, &mut passes);
     let units = Task::new(Work::Units, 1);
     let (first, second) = work_in_two(&rt, alloc, &directory, pair, units);
-    let (mut ones, mut twos) = (Vec::new(alloc), Vec::new(alloc));
-    let Some(()) = hand_in(&directory, &mut passes, first, &mut ones) else {
+    let (mut ones, mut twos) = (Gathered::new(alloc), Gathered::new(alloc));
+    let Some(()) = hand_in(&rt, &directory, &mut passes, first, &mut ones) else {
         panic!(rt; "a thread gave up")
     };
-    let Some(()) = hand_in(&directory, &mut passes, second, &mut twos) else {
+    let Some(()) = hand_in(&rt, &directory, &mut passes, second, &mut twos) else {
         panic!(rt; "a thread gave up")
     };
     let Ok(provider) = directory.close(passes) else {
@@ -150,15 +172,19 @@ fn two_threads_add_fifty_units_each(rt: HostRuntime) -> Result<(), Fail> {
     };
     let writes = provider.writes();
     discard(provider);
-    assert!(rt; ones.len() == 50 && accepted(ones.as_slice()) == 50 && rises(ones.as_slice()));
-    assert!(rt; twos.len() == 50 && accepted(twos.as_slice()) == 50 && rises(twos.as_slice()));
+    assert!(rt; has_fifty_in_order(ones.tried.as_slice()));
+    assert!(rt; has_fifty_in_order(twos.tried.as_slice()));
     assert!(rt; writes == 101);
     Ok(())
 }
 
+fn has_fifty_in_order(tried: &[Tried]) -> bool {
+    tried.len() == 50 && accepted(tried) == 50 && rises(tried)
+}
+
 /// Eight threads each call 2,000 times: they write 500 units of their own and 500 that the others
 /// want too, search, count, and two of them follow. One thread that makes the writes of the journal
-/// again gets each reply at its place.
+/// again gets each reply at its place, and the consumers of those two hold what was written.
 #[test]
 fn one_thread_gets_the_replies_of_eight(rt: HostRuntime) -> Result<(), Fail> {
     let alloc = rt.alloc();
@@ -169,20 +195,26 @@ fn one_thread_gets_the_replies_of_eight(rt: HostRuntime) -> Result<(), Fail> {
     let second = last_two(&directory, &mut passes);
     let first = last_two(&directory, &mut passes);
     let (lower, upper) = work_in_eight(&rt, alloc, &directory, (first, second), (third, fourth));
-    let mut log = Vec::new(alloc);
-    let Some(()) = hand_in_four(&directory, &mut passes, lower, &mut log) else {
+    let mut gathered = Gathered::new(alloc);
+    let Some(()) = hand_in_four(&rt, &directory, &mut passes, lower, &mut gathered) else {
         panic!(rt; "a thread gave up")
     };
-    let Some(()) = hand_in_four(&directory, &mut passes, upper, &mut log) else {
+    let Some(()) = hand_in_four(&rt, &directory, &mut passes, upper, &mut gathered) else {
         panic!(rt; "a thread gave up")
     };
     let Ok(shared) = directory.close(passes) else {
         panic!(rt; "no pass was out")
     };
-    let same = is_made_again(alloc, &shared, &mut log);
+    let Gathered {
+        mut tried,
+        consumers,
+    } = gathered;
+    let copied = are_copies(alloc, &shared, tried.as_slice(), consumers.as_slice());
+    let same = is_made_again(alloc, &shared, &mut tried);
     let writes = shared.writes();
     discard(shared);
-    assert!(rt; same == Some(true) && log.len() == 8_000 && writes == 4_501);
+    assert!(rt; same == Some(true) && tried.len() == 8_000 && writes == 4_501);
+    assert!(rt; copied == Some(true) && consumers.len() == 2);
     Ok(())
 }
 

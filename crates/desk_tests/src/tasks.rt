@@ -1,4 +1,5 @@
 //! What threads do at their desks, and what they note of it.
+use sync_consumer::Consumer;
 
 /// What a thread does at its desk.
 #[derive(Clone, Copy)]
@@ -35,4 +36,19 @@ pub struct Tried {
     pub unit: u32,
     pub code: u32,
     pub number: u64,
+}
+
+/// A search that goes on after its refresh, by its number, and the consumer that takes its
+/// messages.
+#[derive(Drop)]
+pub struct FollowedSearch {
+    pub number: u64,
+    pub consumer: Consumer,
+}
+
+/// What a thread hands in: the writes that it tried, and the search that it follows, if any.
+#[derive(Drop)]
+pub struct Noted {
+    pub tried: Vec<Tried>,
+    pub search: Option<FollowedSearch>,
 }

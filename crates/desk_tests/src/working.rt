@@ -1,15 +1,15 @@
 //! Threads at work at desks of their own.
-ghost use Rattle.std.specs.Prelude.{◌≡◌, OnSome};
+ghost use Rattle.std.specs.Prelude.{◌≡◌};
 ghost use Rattle.std.specs.Thread.{IsSync};
-ghost use Rattle.turn_cell.specs.Journals.{Every};
 ghost use Rattle.turn_cell.specs.Passes.{cell_id};
 ghost use Rattle.shared_directory.specs.Passes.{IsPassOf};
 ghost use Rattle.desk_tests.specs.Groups.{ArePassesOf, AreGivenBack};
 
-use crate::asking::{add, count, follow, next};
-use crate::passing::{Pair, put_back};
-use crate::tasks::{Task, Tried, Work};
+use crate::asking::{add, asked, count, follow, next, take_next};
+use crate::passing::Pair;
+use crate::tasks::{FollowedSearch, Noted, Task, Tried, Work};
 use entry_tree::Scope;
+use ldap_ber::discard;
 use shared_directory::{DirectoryPass, SharedDirectory};
 use std::alloc::Global;
 use std::sync::Wait;
@@ -44,20 +44,19 @@ pub(crate) fn try_unit<P: Port>(
 
 /// The call of a round. Each second round is a write: of a unit of this thread, or of one that all
 /// threads want. The others search the base, count the writes, and take a message of the search,
-/// where this thread has one.
+/// where this thread follows one.
 fn call<P: Port>(
     alloc: Global,
     port: &mut P,
     thread: u32,
     round: u32,
-    search: u64,
-    log: &mut Vec<Tried>,
+    noted: &mut Noted,
 ) -> Option<()>
     ensures { P.home port.new ≡ P.home port.old }
 {
     match round % 8 {
-        0 | 4 => try_unit(alloc, port, thread, round, log),
-        2 | 6 => try_unit(alloc, port, 0, round, log),
+        0 | 4 => try_unit(alloc, port, thread, round, &mut noted.tried),
+        2 | 6 => try_unit(alloc, port, 0, round, &mut noted.tried),
         1 | 5 => {
             let found = count(alloc, port, Scope::Base)?;
             (found == 1).then_some(())
@@ -66,29 +65,34 @@ fn call<P: Port>(
             let writes = port.writes();
             (writes > 0).then_some(())
         }
-        _ => {
-            let letter = next(port, search)?;
-            (letter == awaited(search)).then_some(())
-        }
+        _ => take_one(port, &mut noted.search),
     }
 }
 
-/// What each call on a search gives: there is always a message of a search that was opened, since
-/// two writes of its own thread come for each that is taken.
-fn awaited(search: u64) -> char {
-    if search == 0 { '?' } else { 'm' }
+/// Takes a message, of which there always is one, since two writes of its own thread come for each
+/// that is taken. A thread that follows none asks for a search that there is not.
+fn take_one<P: Port>(port: &mut P, search: &mut Option<FollowedSearch>) -> Option<()>
+    ensures { P.home port.new ≡ P.home port.old }
+{
+    let (letter, awaited) = match search {
+        Some(search) => (take_next(port, search)?, 'm'),
+        None => (next(port, 0)?, '?'),
+    };
+    (letter == awaited).then_some(())
 }
 
-/// The number of the search by which each fourth thread follows the directory, or 0, which names
-/// none.
-fn search_of<P: Port>(alloc: Global, port: &mut P, thread: u32) -> Option<u64>
+/// The search by which each fourth thread follows the directory.
+fn search_of<P: Port>(alloc: Global, port: &mut P, thread: u32) -> Option<Option<FollowedSearch>>
     ensures { P.home port.new ≡ P.home port.old }
 {
     if thread % 4 != 0 {
-        return Some(0);
+        return Some(None);
     }
     match follow(alloc, port)? {
-        Accepted::Opened(number, _) => Some(number),
+        Accepted::Opened(number, _) => {
+            let consumer = asked(alloc)?;
+            Some(Some(FollowedSearch { number, consumer }))
+        }
         Accepted::Refused(_) | Accepted::NoMemory => None,
     }
 }
@@ -105,26 +109,42 @@ fn add_units<P: Port>(alloc: Global, port: &mut P, thread: u32) -> Option<Vec<Tr
 }
 
 /// Calls two thousand times.
-fn make_calls<P: Port>(alloc: Global, port: &mut P, thread: u32) -> Option<Vec<Tried>>
+fn make_calls<P: Port>(alloc: Global, port: &mut P, thread: u32) -> Option<Noted>
     ensures { P.home port.new ≡ P.home port.old }
 {
-    let mut log = Vec::new(alloc);
     let search = search_of(alloc, port, thread)?;
-    for round in 0..2_000u32 {
-        call(alloc, port, thread, round, search, &mut log)?;
+    let mut noted = Noted {
+        tried: Vec::new(alloc),
+        search,
+    };
+    let done = call_each(alloc, port, thread, &mut noted);
+    if done.is_some() && rises(noted.tried.as_slice()) {
+        return Some(noted);
     }
-    if rises(log.as_slice()) {
-        Some(log)
-    } else {
-        None
-    }
+    discard(noted);
+    None
 }
 
-fn perform<P: Port>(alloc: Global, port: &mut P, task: Task) -> Option<Vec<Tried>>
+fn call_each<P: Port>(alloc: Global, port: &mut P, thread: u32, noted: &mut Noted) -> Option<()>
+    ensures { P.home port.new ≡ P.home port.old }
+{
+    for round in 0..2_000u32 {
+        call(alloc, port, thread, round, noted)?;
+    }
+    Some(())
+}
+
+fn perform<P: Port>(alloc: Global, port: &mut P, task: Task) -> Option<Noted>
     ensures { P.home port.new ≡ P.home port.old }
 {
     match task.work {
-        Work::Units => add_units(alloc, port, task.thread),
+        Work::Units => {
+            let tried = add_units(alloc, port, task.thread)?;
+            Some(Noted {
+                tried,
+                search: None,
+            })
+        }
         Work::Calls => make_calls(alloc, port, task.thread),
     }
 }
@@ -147,8 +167,8 @@ pub(crate) fn accepted(log: &[Tried]) -> u64 {
     log.iter().filter(|tried| tried.code == 0).count() as u64
 }
 
-/// A pass that a thread gives back, and what it tried, unless it gave up.
-pub(crate) type Worked = (DirectoryPass, Option<Vec<Tried>>);
+/// A pass that a thread gives back, and what it noted, unless it gave up.
+pub(crate) type Worked = (DirectoryPass, Option<Noted>);
 
 pub(crate) type Four = ((Worked, Worked), (Worked, Worked));
 
@@ -163,11 +183,11 @@ fn work_as<R: Wait>(
     ensures { IsPassOf (cell_id directory.now.cell) result.0 }
 {
     let mut desk = directory.desk(rt, pass);
-    let log = perform(alloc, &mut desk, task);
-    (desk.leave(), log)
+    let noted = perform(alloc, &mut desk, task);
+    (desk.leave(), noted)
 }
 
-/// Two threads do this work. Gives the passes, and all that they tried.
+/// Two threads do this work. Gives the passes, and what they noted.
 pub(crate) fn work_in_two<R: Threads + Wait + Sync>(
     rt: &R,
     alloc: Global,
@@ -222,7 +242,7 @@ fn work_in_four<R: Threads + Wait + Sync>(
     )
 }
 
-/// Eight threads each call 2,000 times. Gives the passes, and all that they tried.
+/// Eight threads each call 2,000 times. Gives the passes, and what they noted.
 pub(crate) fn work_in_eight<R: Threads + Wait + Sync>(
     rt: &R,
     alloc: Global,
@@ -246,40 +266,4 @@ pub(crate) fn work_in_eight<R: Threads + Wait + Sync>(
             ensures { AreGivenBack (cell_id directory.entry.now.cell) result }
         { work_in_four(rt, alloc, directory, upper, Task::new(Work::Calls, 5)) },
     )
-}
-
-/// Puts the pass of a thread back, and what it tried at the end of a list.
-pub(crate) fn hand_in(
-    directory: &SharedDirectory,
-    passes: &mut Vec<DirectoryPass>,
-    worked: Worked,
-    log: &mut Vec<Tried>,
-) -> Option<()>
-    requires passes { Every (λ pass. IsPassOf (cell_id directory.now.cell) pass) passes.old.items }
-    requires worked { IsPassOf (cell_id directory.now.cell) worked.0 }
-    ensures { OnSome result
-        (Every (λ pass. IsPassOf (cell_id directory.now.cell) pass) passes.new.items) }
-{
-    let (pass, tried) = worked;
-    put_back(directory, passes, pass)?;
-    log.extend_from_slice(tried?.as_slice()).ok()
-}
-
-/// The same of four threads.
-pub(crate) fn hand_in_four(
-    directory: &SharedDirectory,
-    passes: &mut Vec<DirectoryPass>,
-    four: Four,
-    log: &mut Vec<Tried>,
-) -> Option<()>
-    requires passes { Every (λ pass. IsPassOf (cell_id directory.now.cell) pass) passes.old.items }
-    requires four { AreGivenBack (cell_id directory.now.cell) four }
-    ensures { OnSome result
-        (Every (λ pass. IsPassOf (cell_id directory.now.cell) pass) passes.new.items) }
-{
-    let ((first, second), (third, fourth)) = four;
-    hand_in(directory, passes, first, log)?;
-    hand_in(directory, passes, second, log)?;
-    hand_in(directory, passes, third, log)?;
-    hand_in(directory, passes, fourth, log)
 }

@@ -6,12 +6,12 @@ use Rattle.std.proofs.lemmas.List.Folds.{list_all-append}
 use Rattle.schema_rules.specs.declared.attributes.Attribute.{Attribute}
 use Rattle.schema_rules.specs.declared.raw.How.{How}
 use Rattle.schema_rules.specs.declared.raw.How.TheVariants as how
-use Rattle.schema_rules.specs.Attributes.{is_given, is_of_syntax}
+use Rattle.schema_rules.specs.Attributes.{is_given, is_of_syntax, has_kind}
 use Rattle.schema_rules.specs.Keys.{keys_of}
 use Rattle.schema_rules.specs.Schema.{is_operational}
 use Rattle.schema_rules.proofs.Joining.{is_given-with_values}
 use Rattle.entry_tree.specs.declared.edit.Edit.{Edit}
-use Rattle.entry_tree.specs.Edits.{matches, change_of, with_change, unmatched, has_kind, without_kind, without_values, with_only, deleted, replaced, changed, after_edit, after_edits}
+use Rattle.entry_tree.specs.Edits.{matches, change_of, with_change, unmatched, without_kind, without_values, with_only, deleted, replaced, changed, after_edit, after_edits}
 use Rattle.entry_tree.specs.Sound.{is_sound_edit}
 use Rattle.entry_tree.proofs.Passing.{list_all-filter}
 

@@ -1,5 +1,6 @@
 -- Accepted writes leave entries that can be sent, one after another.
-use Rattle.std.proofs.Common.{◌≡◌, ◌<◌, ◌+◌, ◌^◌, ℕ, suc, List, [], ◌∷◌, ◌++◌, length, take, get_or, refl, inl, inr, subst, arith}
+use Rattle.std.proofs.Common.{◌≡◌, ◌<◌, ◌+◌, ◌^◌, ℕ, zero, suc, List, [], ◌∷◌, ◌++◌, length, take, get_or, refl, inl, inr, subst, arith}
+use Rattle.std.specs.Prelude.{false}
 use Rattle.std.specs.List.{All}
 use Rattle.std.proofs.lemmas.Bool.{cases_lt}
 use Rattle.std.proofs.lemmas.List.{take-take, take-append-le, get_or-take, get_or_append_left, get_or_push, length-take, length-append}
@@ -9,6 +10,9 @@ use Rattle.entry_tree.specs.declared.entry.Entry.{Entry}
 use Rattle.entry_tree.specs.declared.op.Write.{Write}
 use Rattle.entry_tree.specs.Effects.{effect}
 use Rattle.entry_tree.specs.History.{identity, state_from, state_of}
+use Rattle.entry_tree.specs.Sound.{is_commit}
+use Rattle.directory_writes.specs.Directory.{AreAccepted, AreAcceptedFrom}
+use Rattle.directory_writes.specs.Formed.{AreFormed}
 use Rattle.directory_laws.specs.Accepted.{IsAcceptedFromClient, WereAccepted}
 use Rattle.sync_wire.specs.CanBeSent.{CanBeSent}
 use Rattle.directory_laws.proofs.Writing.{sent-effect}
@@ -56,6 +60,27 @@ WereAccepted-push suffix history writes write accepted last number other low =
           let here : number ≡ length writes = omega (arith, length-append writes (write ∷ [])) in
           rw (here, take-append-le (length writes) writes (write ∷ []) (omega arith), get_or_push writes write other (length writes) refl) last
     ]
+
+-- ---- the writes that a directory keeps
+
+kept_from : (suffix : List (List TypeAndValue)) (history : ℕ) (entries : List Entry) (before : ℕ) (writes : List Write) → AreAcceptedFrom suffix history entries before writes → AreFormed writes
+    → All (λ write. is_commit write.op ≡ false) writes → AllAccepted suffix history entries before writes
+unfolding state_from
+kept_from suffix history entries before [] each formed asked number other low = absurd (omega (arith, low))
+kept_from suffix history entries before (write ∷ writes) each formed asked zero other low = record {
+  formed = (formed zero other low).op (asked zero other low);
+  sound = each.0.sound;
+  is_csn = (formed zero other low).csn;
+  free = each.0.unopposed;
+}
+kept_from suffix history entries before (write ∷ writes) each formed asked (suc number) other low =
+    kept_from suffix history (effect entries write.op (identity history (before + 1)) write.csn) (before + 1) writes each.1
+    (λ n o less. formed (suc n) o (omega (arith, less))) (λ n o less. asked (suc n) o (omega (arith, less))) number other (omega (arith, low))
+
+-- where none is a commit, each was accepted in the entries that those before it left
+pub WereAccepted-kept : (suffix : List (List TypeAndValue)) (history : ℕ) (writes : List Write) → AreAccepted suffix history writes → AreFormed writes
+    → All (λ write. is_commit write.op ≡ false) writes → WereAccepted suffix history writes
+WereAccepted-kept suffix history writes accepted formed asked = kept_from suffix history [] 0 writes accepted formed asked
 
 -- ---- fewer writes
 

@@ -6,7 +6,7 @@ use Rattle.dn_names.proofs.SortedLists.{In}
 use Rattle.entry_tree.specs.declared.edit.Edit.{Edit}
 use Rattle.entry_tree.specs.declared.entry.Entry.{Entry}
 use Rattle.entry_tree.specs.declared.op.Op.{Op}
-use Rattle.directory_laws.specs.Accepted.{IsWellFormed}
+use Rattle.directory_writes.specs.Formed.{IsWellFormed}
 use Rattle.entry_tree.specs.declared.op.Op.TheVariants.{Add, Delete, Modify, Rename, Commit}
 use Rattle.entry_tree.specs.Effects.{edited, modified, moved, new_name, new_attributes, renamed, effect}
 use Rattle.entry_tree.specs.History.{identity}

@@ -14,7 +14,7 @@ use Rattle.entry_tree.specs.declared.op.Op.{Op}
 use Rattle.entry_tree.specs.declared.op.Op.TheVariants.{Add, Delete, Modify, Rename}
 use Rattle.entry_tree.specs.Reading.{and_then, or_invalid_dn_syntax, read_name, read_rdn, read_superior, read_edits, read_change}
 use Rattle.entry_tree.specs.Sound.{is_sound_op, is_sound_edit}
-use Rattle.directory_laws.specs.Accepted.{IsWellFormed}
+use Rattle.directory_writes.specs.Formed.{IsWellFormed}
 use Rattle.directory_laws.proofs.ReadAttributes.{IsSoundList, read_attributes-sound}
 use Rattle.directory_laws.proofs.ReadEdits.{read_edits-sound}
 use Rattle.directory_laws.proofs.ReadNames.{name_of_text-sound, rdn_of_text-sound}

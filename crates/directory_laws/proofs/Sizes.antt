@@ -7,7 +7,7 @@ use Rattle.dn_names.specs.Names.{TypeAndValue}
 use Rattle.entry_tree.specs.declared.edit.Edit.{Edit}
 use Rattle.entry_tree.specs.declared.entry.Entry.{Entry}
 use Rattle.entry_tree.specs.declared.op.Op.{Op}
-use Rattle.directory_laws.specs.Accepted.{IsWellFormed}
+use Rattle.directory_writes.specs.Formed.{IsWellFormed}
 use Rattle.entry_tree.specs.declared.op.Op.TheVariants.{Add, Delete, Modify, Rename, Commit}
 use Rattle.entry_tree.specs.Codes.{weight_code, rdn_kept_code, edited_code, modify_code, target_code, length_code, rename_code, code_of}
 use Rattle.entry_tree.specs.Edits.{after_edits, edits_code}

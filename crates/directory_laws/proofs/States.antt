@@ -58,6 +58,7 @@ tree-state_from (write ∷ writes) suffix history entries before tree numbered a
     (λ e member. IsNumbered-later history before e.uuid (numbered e member)))
     (λ number other low. accepted (suc number) other (omega arith)) (omega (arith, few))
 
+-- each entry but the suffix's has its parent, and one name is one identity
 pub tree-state_of : (suffix : List (List TypeAndValue)) (history : ℕ) (writes : List Write) (number : ℕ) → WereAccepted suffix history writes → length writes ≤ 2 ^ 62
     → IsTree suffix (state_of history writes number)
 tree-state_of suffix history writes number accepted few =

@@ -8,7 +8,7 @@ use Rattle.dn_names.proofs.SortedLists.{In}
 use Rattle.entry_tree.specs.declared.edit.Edit.{Edit}
 use Rattle.entry_tree.specs.declared.entry.Entry.{Entry}
 use Rattle.entry_tree.specs.declared.op.Op.{Op}
-use Rattle.directory_laws.specs.Accepted.{IsWellFormed}
+use Rattle.directory_writes.specs.Formed.{IsWellFormed}
 use Rattle.entry_tree.specs.declared.op.Op.TheVariants.{Add, Delete, Modify, Rename, Commit}
 use Rattle.entry_tree.specs.Codes.{has_no_place, add_target_code, add_code, target_code, rename_code, code_of}
 use Rattle.entry_tree.specs.Effects.{edited, modified, new_name, new_attributes, renamed, effect}

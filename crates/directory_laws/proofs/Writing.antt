@@ -18,7 +18,8 @@ use Rattle.entry_tree.specs.Effects.{edited, modified, effect}
 use Rattle.entry_tree.specs.Sound.{is_sound_edit, is_sound_op}
 use Rattle.entry_tree.specs.State.{put, is_identified, is_named, entry_named}
 use Rattle.entry_tree.proofs.AttributeLists.{IsAttributeList-after_edits}
-use Rattle.directory_laws.specs.Accepted.{IsWellFormed, IsAcceptedFromClient}
+use Rattle.directory_writes.specs.Formed.{IsWellFormed}
+use Rattle.directory_laws.specs.Accepted.{IsAcceptedFromClient}
 use Rattle.sync_wire.specs.CanBeSent.{CanBeSent}
 use Rattle.directory_laws.proofs.Codes.{light-added, light-edited}
 use Rattle.directory_laws.proofs.Given.{given-after_edits}

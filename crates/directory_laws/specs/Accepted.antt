@@ -1,25 +1,13 @@
 -- Writes that a directory accepts.
-use Rattle.std.specs.Prelude.{◌≡◌, ◌<◌, ⊤, ℕ, true, List, length, get_or, None, IfSome}
-use Rattle.schema_rules.specs.Attributes.{IsAttributeList}
+use Rattle.std.specs.Prelude.{◌≡◌, ◌<◌, ℕ, true, List, length, get_or, None}
 use Rattle.csn_cookie.specs.Csn.{IsCsn}
 use Rattle.dn_names.specs.Names.{TypeAndValue}
-use Rattle.dn_names.specs.Sound.{IsName, is_rdn}
 use Rattle.entry_tree.specs.declared.entry.Entry.{Entry}
-use Rattle.entry_tree.specs.declared.op.Op.{Op}
-use Rattle.entry_tree.specs.declared.op.Op.TheVariants.{Add, Delete, Modify, Rename, Commit}
 use Rattle.entry_tree.specs.declared.op.Write.{Write}
 use Rattle.entry_tree.specs.Codes.{code_of}
 use Rattle.entry_tree.specs.History.{state_of}
 use Rattle.entry_tree.specs.Sound.{is_sound_op}
-
--- the names that a write gives are names, and what it adds has each type once and none without
--- values; no client asks for a commit
-abbrev pub IsWellFormed : Op → Type 0
-IsWellFormed (Add name attrs) = IsName name × IsAttributeList attrs
-IsWellFormed (Delete name) = ⊤
-IsWellFormed (Modify name edits) = ⊤
-IsWellFormed (Rename name rdn deletes superior) = (is_rdn rdn ≡ true) × IfSome superior IsName
-IsWellFormed (Commit puts drops) = ⊥
+use Rattle.directory_writes.specs.Formed.{IsWellFormed}
 
 -- a client may ask for the write, its CSN is in range, and nothing rejects it in these entries
 pub record IsAcceptedFromClient

@@ -1,6 +1,6 @@
 -- The laws of a directory's histories: its entries can be sent, and its states
 -- keep within the limits.
-use Rattle.std.specs.Prelude.{◌≡◌, ◌<◌, ◌≤◌, ◌^◌, ℕ, true, List, [], ◌∷◌, ◌++◌, length, All, IfSome, Ok}
+use Rattle.std.specs.Prelude.{◌≡◌, ◌<◌, ◌≤◌, ◌^◌, ℕ, true, false, List, [], ◌∷◌, ◌++◌, length, All, IfSome, Ok}
 use Rattle.schema_rules.specs.declared.raw.Change.{Change}
 use Rattle.csn_cookie.specs.Csn.{CsnValue, IsCsn, start}
 use Rattle.csn_cookie.specs.CsnMaker.{next_csn}
@@ -11,10 +11,12 @@ use Rattle.entry_tree.specs.declared.op.Write.{Write}
 use Rattle.entry_tree.specs.Effects.{effect}
 use Rattle.entry_tree.specs.History.{state_of}
 use Rattle.entry_tree.specs.Reading.{read_change}
-use Rattle.entry_tree.specs.Sound.{is_sound_op}
+use Rattle.entry_tree.specs.Sound.{is_commit, is_sound_op}
 use Rattle.entry_tree.specs.State.{total_weight, most_entries, most_weight}
 use Rattle.sync_model.specs.Law.{IsWithinLimits}
-use Rattle.directory_laws.specs.Accepted.{IsWellFormed, IsAcceptedFromClient, WereAccepted}
+use Rattle.directory_writes.specs.Directory.{AreAccepted}
+use Rattle.directory_writes.specs.Formed.{AreFormed, IsWellFormed}
+use Rattle.directory_laws.specs.Accepted.{IsAcceptedFromClient, WereAccepted}
 use Rattle.sync_wire.specs.CanBeSent.{CanBeSent}
 use Rattle.directory_laws.specs.Reading.{EntryIsReadAgain}
 
@@ -50,6 +52,14 @@ abbrev pub PrefixesWereAccepted : Type 0
 PrefixesWereAccepted =
     (suffix : List (List TypeAndValue)) (history : ℕ) (writes more : List Write)
     → WereAccepted suffix history (writes ++ more) → WereAccepted suffix history writes
+
+-- the writes that a directory keeps were accepted, where none of them is a commit
+abbrev pub KeptWritesWereAccepted : Type 0
+KeptWritesWereAccepted =
+    (suffix : List (List TypeAndValue)) (history : ℕ) (writes : List Write)
+    → AreAccepted suffix history writes → AreFormed writes
+    → All (λ write. is_commit write.op ≡ false) writes
+    → WereAccepted suffix history writes
 
 -- ---- states
 

@@ -4,8 +4,8 @@
 #![tactic(auto)]
 
 ghost use Rattle.std.specs.Prelude.{◌≡◌, false};
-ghost use Rattle.directory_laws.specs.Accepted.{IsWellFormed};
-ghost use Rattle.directory_laws.specs.Law.{EntriesCanBeSent, WritesKeepEntries, SentIsReadAgain, AcceptedWritesGrow, PrefixesWereAccepted, StatesAreSmall, StatesAreWithin, DrawnCsnsAreInRange, ReadWritesAreSound};
+ghost use Rattle.directory_writes.specs.Formed.{IsWellFormed};
+ghost use Rattle.directory_laws.specs.Law.{EntriesCanBeSent, WritesKeepEntries, SentIsReadAgain, AcceptedWritesGrow, PrefixesWereAccepted, KeptWritesWereAccepted, StatesAreSmall, StatesAreWithin, DrawnCsnsAreInRange, ReadWritesAreSound};
 ghost use Rattle.entry_tree.specs.Sound.{is_commit};
 
 use entry_tree::Op;
@@ -34,6 +34,11 @@ pub fn accepted_writes_grow()
 /// The first of writes that were accepted one after another were accepted.
 pub fn prefixes_were_accepted()
     ensures { PrefixesWereAccepted }
+{}
+
+/// The writes that a directory keeps were accepted one after another, where none is a commit.
+pub fn kept_writes_were_accepted()
+    ensures { KeptWritesWereAccepted }
 {}
 
 /// Each state of a directory keeps within the limits: it has at most n entries, of at most so much

@@ -1,32 +1,40 @@
 -- What a configuration that was read has.
-use Rattle.std.proofs.Common.{◌≡◌, ℕ, ◌<◌, ◌≤◌, ◌&&◌, ℤ, pos, negsuc, Bool, true, false, not, List, Option, Some, None, Result, Ok, Err, codes, if◌then◌else◌, is_some, nat_le, ◌≢◌, ap, refl, subst, ◌∙◌, leb-true, arith}
+use Rattle.std.proofs.Common.{◌≡◌, ℕ, ◌<◌, ◌≤◌, ◌&&◌, ℤ, pos, negsuc, Bool, true, false, not, List, Option, Some, None, Result, Ok, Err, codes, if◌then◌else◌, is_some, nat_le, ap, refl, subst, ◌∙◌, leb-true, arith}
+use Rattle.std.specs.Prelude.{IsSome, option_map}
 use Rattle.toml.specs.Data.{Data, get, as_integer, as_str, table}
 use Rattle.dn_names.specs.Reading.{name_of_text}
 use Rattle.dn_names.specs.declared.fault.NameFault.{NameFault}
-use Rattle.sync_config.specs.Keys.{Name, has, integer_in, name_in, name_of, number_of, text_in, text_of}
-use Rattle.sync_config.specs.Settings.{IsReadAs, bind_name_of, bind_password_of, config_of, connections_of, ldif_of, listen_of, log_limit_of, queue_limit_of, seats_of, sid_of, suffix_of, with_found}
+use Rattle.sync_config.specs.Keys.{Name, has, integer_in, name_in, name_of, number_of, text_in, text_of, with_found}
+use Rattle.sync_config.specs.Settings.{ConfigValue, IsReadAs, bind_name_of, bind_password_of, config_of, config_value, connections_of, ldif_of, listen_of, log_limit_of, queue_limit_of, rounds_in, seats_of, sid_of, suffix_of}
+use Rattle.sync_config.specs.Upstreams.{FollowedValue, UpstreamValue, some_upstream, upstream_by, upstream_in, upstream_of, upstream_value}
 use Rattle.sync_config.specs.declared.config.Config.{Config}
 use Rattle.sync_config.specs.declared.fault.ConfigFault.{ConfigFault}
 use Rattle.sync_config.specs.declared.fault.ConfigFault.TheVariants.{BadValue, MissingKey}
 
--- what stands under three keys, by what is found under all
-record Keyed (suffix : Result (Option Name) ConfigFault) (sid seats : Result ℕ ConfigFault) (follows : Bool) (config : Config) : Type 0 where
+-- what stands under four keys, by what is found under all
+record Keyed (suffix : Result (Option Name) ConfigFault) (sid seats : Result ℕ ConfigFault) (followed : Result (Option FollowedValue) ConfigFault) (config : ConfigValue) : Type 0 where
   pub suffix_is : suffix ≡ Ok config.suffix
   pub sid_is : sid ≡ Ok config.sid
   pub seats_is : seats ≡ Ok config.seats
-  pub follows_none : follows ≡ false
+  pub upstream : Option FollowedValue
+  pub followed_is : followed ≡ Ok upstream
+  pub upstream_is : option_map (λ (f : FollowedValue). f.upstream) upstream ≡ config.upstream
 
-abbrev suffix_in : Result Config ConfigFault → Result (Option Name) ConfigFault
+abbrev suffix_in : Result ConfigValue ConfigFault → Result (Option Name) ConfigFault
 suffix_in (Ok c) = Ok c.suffix
 suffix_in (Err fault) = Err fault
 
-abbrev sid_in : Result Config ConfigFault → Result ℕ ConfigFault
+abbrev sid_in : Result ConfigValue ConfigFault → Result ℕ ConfigFault
 sid_in (Ok c) = Ok c.sid
 sid_in (Err fault) = Err fault
 
-abbrev seats_in : Result Config ConfigFault → Result ℕ ConfigFault
+abbrev seats_in : Result ConfigValue ConfigFault → Result ℕ ConfigFault
 seats_in (Ok c) = Ok c.seats
 seats_in (Err fault) = Err fault
+
+abbrev upstream_at : Result ConfigValue ConfigFault → Option UpstreamValue
+upstream_at (Ok c) = c.upstream
+upstream_at (Err fault) = None
 
 found_keys :
     (listen : Result (List ℕ) ConfigFault)
@@ -39,8 +47,9 @@ found_keys :
     (bind_password : Result (Option (List ℕ)) ConfigFault)
     (seats : Result ℕ ConfigFault)
     (connections : Result ℕ ConfigFault)
-    (follows : Bool) (config : Config) →
-    with_found {B = Config} listen (λ listen.
+    (followed : Result (Option FollowedValue) ConfigFault)
+    (config : ConfigValue) →
+    with_found {B = ConfigValue} listen (λ listen.
     with_found suffix (λ suffix.
     with_found sid (λ sid.
     with_found ldif (λ ldif.
@@ -50,7 +59,8 @@ found_keys :
     with_found bind_password (λ bind_password.
     with_found seats (λ seats.
     with_found connections (λ connections.
-    if follows then Err (BadValue (codes "upstream")) else Ok (record {
+    with_found followed (λ followed.
+    Ok (record {
       listen = listen;
       suffix = suffix;
       sid = sid;
@@ -61,31 +71,35 @@ found_keys :
       bind_password = bind_password;
       seats = seats;
       connections = connections;
-    }))))))))))) ≡ Ok config
-    → Keyed suffix sid seats follows config
-found_keys (Ok listen) (Ok suffix) (Ok sid) (Ok ldif) (Ok log_limit) (Ok queue_limit) (Ok bind_name) (Ok bind_password) (Ok seats) (Ok connections) true config is = absurd cc
-found_keys (Ok listen) (Ok suffix) (Ok sid) (Ok ldif) (Ok log_limit) (Ok queue_limit) (Ok bind_name) (Ok bind_password) (Ok seats) (Ok connections) false config is = record {
+      upstream = option_map (λ (f : FollowedValue). f.upstream) followed;
+      rounds = rounds_in followed;
+    })))))))))))) ≡ Ok config
+    → Keyed suffix sid seats followed config
+found_keys (Ok listen) (Ok suffix) (Ok sid) (Ok ldif) (Ok log_limit) (Ok queue_limit) (Ok bind_name) (Ok bind_password) (Ok seats) (Ok connections) (Ok followed) config is = record {
   suffix_is = ap suffix_in is;
   sid_is = ap sid_in is;
   seats_is = ap seats_in is;
-  follows_none = refl;
+  upstream = followed;
+  followed_is = refl;
+  upstream_is = ap upstream_at is;
 }
-found_keys (Err fault) suffix sid ldif log_limit queue_limit bind_name bind_password seats connections follows config is = absurd cc
-found_keys (Ok listen) (Err fault) sid ldif log_limit queue_limit bind_name bind_password seats connections follows config is = absurd cc
-found_keys (Ok listen) (Ok suffix) (Err fault) ldif log_limit queue_limit bind_name bind_password seats connections follows config is = absurd cc
-found_keys (Ok listen) (Ok suffix) (Ok sid) (Err fault) log_limit queue_limit bind_name bind_password seats connections follows config is = absurd cc
-found_keys (Ok listen) (Ok suffix) (Ok sid) (Ok ldif) (Err fault) queue_limit bind_name bind_password seats connections follows config is = absurd cc
-found_keys (Ok listen) (Ok suffix) (Ok sid) (Ok ldif) (Ok log_limit) (Err fault) bind_name bind_password seats connections follows config is = absurd cc
-found_keys (Ok listen) (Ok suffix) (Ok sid) (Ok ldif) (Ok log_limit) (Ok queue_limit) (Err fault) bind_password seats connections follows config is = absurd cc
-found_keys (Ok listen) (Ok suffix) (Ok sid) (Ok ldif) (Ok log_limit) (Ok queue_limit) (Ok bind_name) (Err fault) seats connections follows config is = absurd cc
-found_keys (Ok listen) (Ok suffix) (Ok sid) (Ok ldif) (Ok log_limit) (Ok queue_limit) (Ok bind_name) (Ok bind_password) (Err fault) connections follows config is = absurd cc
-found_keys (Ok listen) (Ok suffix) (Ok sid) (Ok ldif) (Ok log_limit) (Ok queue_limit) (Ok bind_name) (Ok bind_password) (Ok seats) (Err fault) follows config is = absurd cc
+found_keys (Err fault) suffix sid ldif log_limit queue_limit bind_name bind_password seats connections followed config is = absurd cc
+found_keys (Ok listen) (Err fault) sid ldif log_limit queue_limit bind_name bind_password seats connections followed config is = absurd cc
+found_keys (Ok listen) (Ok suffix) (Err fault) ldif log_limit queue_limit bind_name bind_password seats connections followed config is = absurd cc
+found_keys (Ok listen) (Ok suffix) (Ok sid) (Err fault) log_limit queue_limit bind_name bind_password seats connections followed config is = absurd cc
+found_keys (Ok listen) (Ok suffix) (Ok sid) (Ok ldif) (Err fault) queue_limit bind_name bind_password seats connections followed config is = absurd cc
+found_keys (Ok listen) (Ok suffix) (Ok sid) (Ok ldif) (Ok log_limit) (Err fault) bind_name bind_password seats connections followed config is = absurd cc
+found_keys (Ok listen) (Ok suffix) (Ok sid) (Ok ldif) (Ok log_limit) (Ok queue_limit) (Err fault) bind_password seats connections followed config is = absurd cc
+found_keys (Ok listen) (Ok suffix) (Ok sid) (Ok ldif) (Ok log_limit) (Ok queue_limit) (Ok bind_name) (Err fault) seats connections followed config is = absurd cc
+found_keys (Ok listen) (Ok suffix) (Ok sid) (Ok ldif) (Ok log_limit) (Ok queue_limit) (Ok bind_name) (Ok bind_password) (Err fault) connections followed config is = absurd cc
+found_keys (Ok listen) (Ok suffix) (Ok sid) (Ok ldif) (Ok log_limit) (Ok queue_limit) (Ok bind_name) (Ok bind_password) (Ok seats) (Err fault) followed config is = absurd cc
+found_keys (Ok listen) (Ok suffix) (Ok sid) (Ok ldif) (Ok log_limit) (Ok queue_limit) (Ok bind_name) (Ok bind_password) (Ok seats) (Ok connections) (Err fault) config is = absurd cc
 
-keyed : (d : Data) (config : Config) → config_of d ≡ Ok config
-    → Keyed (suffix_of d) (sid_of d) (seats_of d) (has (codes "upstream") d) config
+keyed : (d : Data) (config : ConfigValue) → config_of d ≡ Ok config
+    → Keyed (suffix_of d) (sid_of d) (seats_of d) (upstream_of d) config
 keyed d config is =
     found_keys (listen_of d) (suffix_of d) (sid_of d) (ldif_of d) (log_limit_of d) (queue_limit_of d) (bind_name_of d) (bind_password_of d)
-    (seats_of d) (connections_of d) (has (codes "upstream") d) config is
+    (seats_of d) (connections_of d) (upstream_of d) config is
 
 -- ---- numbers
 
@@ -113,15 +127,17 @@ number_within key least most absent low high (Some value) number is =
 
 -- ---- configurations
 
+-- its server id is below 4096
 pub sid_small : (text : List ℕ) (config : Config) → IsReadAs text (Ok config) → config.sid < 4096
 sid_small text config (members, document, is) =
-    let within = number_within (codes "sid") 0 4095 0 (omega arith) (omega arith) (get (codes "sid") (table members)) config.sid (keyed (table members) config is).sid_is in
+    let within = number_within (codes "sid") 0 4095 0 (omega arith) (omega arith) (get (codes "sid") (table members)) config.sid (keyed (table members) (config_value config) is).sid_is in
     let most : config.sid ≤ 4095 = within.1 in omega arith
 
+-- it has 1 to 64 seats
 pub seats_within : (text : List ℕ) (config : Config) → IsReadAs text (Ok config)
     → (1 ≤ config.seats) × (config.seats ≤ 64)
 seats_within text config (members, document, is) =
-    number_within (codes "seats") 1 64 16 (omega arith) (omega arith) (get (codes "seats") (table members)) config.seats (keyed (table members) config is).seats_is
+    number_within (codes "seats") 1 64 16 (omega arith) (omega arith) (get (codes "seats") (table members)) config.seats (keyed (table members) (config_value config) is).seats_is
 
 -- what stands under the key of the suffix, where another directory is followed or not
 abbrev suffix_at : Bool → Option Data → Result (Option Name) ConfigFault
@@ -141,11 +157,48 @@ read_suffix : (value : Option Data) → suffix_at false value ≡ Ok None → �
 read_suffix None is = cc
 read_suffix (Some value) is = read_text (as_str value) is
 
+-- no table is found where no directory is followed
+unfollowed : (value : Option Data) → upstream_by value ≡ Ok None → is_some value ≡ false
+unfollowed None is = refl
+unfollowed (Some found) is = absurd (some_found (upstream_in found) is)
+  where
+    some_found : (read : Result FollowedValue ConfigFault) → some_upstream read ≡ Ok None → ⊥
+    some_found (Ok followed) wrong = cc
+    some_found (Err fault) wrong = cc
+
+none_mapped : {A B : Type 0} (f : A → B) (value : Option A) → option_map f value ≡ None → value ≡ None
+none_mapped f None is = refl
+none_mapped f (Some x) is = absurd cc
+
+none_is : {A : Type 0} (value : Option A) → is_some value ≡ false → value ≡ None
+none_is None is = refl
+none_is (Some x) is = absurd cc
+
+some_is : {A : Type 0} (value : Option A) → (value ≡ None → ⊥) → IsSome value
+some_is None never = absurd (never refl)
+some_is (Some x) never = refl
+
 -- a directory that follows no other one has a suffix
-pub has_suffix : (text : List ℕ) (config : Config) → IsReadAs text (Ok config) → config.suffix ≢ None
-has_suffix text config (members, document, is) none =
-    let d = table members in
-    let k = keyed d config is in
-    let found : suffix_at (has (codes "upstream") d) (get (codes "suffix") d) ≡ Ok config.suffix = k.suffix_is in
-    read_suffix (get (codes "suffix") d)
-    (subst (λ follows. suffix_at follows (get (codes "suffix") d) ≡ Ok None) k.follows_none (found ∙ ap (λ (s : Option Name). Ok s) none))
+pub has_suffix : (text : List ℕ) (config : Config) → IsReadAs text (Ok config) → is_some config.upstream ≡ false → IsSome config.suffix
+has_suffix text config (members, document, is) alone = some_is config.suffix never
+  where
+    d : Data
+    d = table members
+
+    k : Keyed (suffix_of d) (sid_of d) (seats_of d) (upstream_of d) (config_value config)
+    k = keyed d (config_value config) is
+
+    -- what the configuration has for an upstream was found
+    none : k.upstream ≡ None
+    none = none_mapped (λ (f : FollowedValue). f.upstream) k.upstream (k.upstream_is ∙ ap (option_map upstream_value) (none_is config.upstream alone))
+
+    follows : has (codes "upstream") d ≡ false
+    follows = unfollowed (get (codes "upstream") d) (k.followed_is ∙ ap (λ (f : Option FollowedValue). Ok f) none)
+
+    found : suffix_at (has (codes "upstream") d) (get (codes "suffix") d) ≡ Ok config.suffix
+    found = k.suffix_is
+
+    never : config.suffix ≡ None → ⊥
+    never nothing =
+        read_suffix (get (codes "suffix") d)
+        (subst (λ f. suffix_at f (get (codes "suffix") d) ≡ Ok None) follows (found ∙ ap (λ (s : Option Name). Ok s) nothing))

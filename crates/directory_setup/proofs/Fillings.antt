@@ -13,8 +13,8 @@ use Rattle.sync_provider.specs.Machine.{judged_by}
 use Rattle.sync_provider.specs.Ports.{PortState, WriteReplies, wrote_in}
 use Rattle.sync_provider.specs.declared.writing.Reply.{Reply}
 use Rattle.directory_setup.specs.Filling.{AddsOn, EndsFilling, FillsPart, FillsUp, IsRejectedWith, StepsOn, cause_of, is_add, line_of}
-use Rattle.directory_setup.specs.declared.filling.Taken.{Taken}
-use Rattle.directory_setup.specs.declared.filling.Taken.TheVariants.{Added, Over}
+use Rattle.directory_setup.specs.declared.filling.RecordOutcome.{RecordOutcome}
+use Rattle.directory_setup.specs.declared.filling.RecordOutcome.TheVariants.{Added, Over}
 use Rattle.directory_setup.specs.declared.filling.Filling.{Filling}
 use Rattle.directory_setup.specs.declared.filling.Filling.TheVariants.{Refused}
 use Rattle.directory_setup.specs.declared.refusal.LineCause.TheVariants as cause
@@ -37,14 +37,16 @@ rejected_read : (found : Result Op ℕ) (code : ℕ) (p : PortState)
 rejected_read (Ok op) code p is = absurd cc
 rejected_read (Err fault) code p is = cc
 
-pub unread_add : (change : Change) (line code : ℕ) (p : PortState) (taken : Taken)
+-- an add that is refused as it is read ends the filling at its line
+pub unread_add : (change : Change) (line code : ℕ) (p : PortState) (taken : RecordOutcome)
     → result_err (read_change change) ≡ Some code → taken ≡ Over (Refused line (cause.Refused code))
     → AddsOn change line p taken p
 unread_add change line code p taken fault is =
     subst (λ t. AddsOn change line p t p) (sym is)
     (refl, code, rejected_read (read_change change) code p fault, refl)
 
-pub rejected_add : (change : Change) (line now : ℕ) (p : PortState) (op : Op) (reply : Reply) (new : PortState) (taken : Taken)
+-- so does one that the directory refuses
+pub rejected_add : (change : Change) (line now : ℕ) (p : PortState) (op : Op) (reply : Reply) (new : PortState) (taken : RecordOutcome)
     → read_change change ≡ Ok op → WriteReplies p op now reply new → reply.code ≢ SUCCESS → reply.code ≢ OTHER
     → taken ≡ Over (Refused line (cause.Refused reply.code)) → AddsOn change line p taken new
 rejected_add change line now p op reply new taken read replies fails made is =
@@ -57,7 +59,8 @@ rejected_add change line now p op reply new taken read replies fails made is =
 
 -- ---- one record
 
-pub step_add : (r : RecordReader) (p : PortState) (change : Change) (after : RecordReader) (line : ℕ) (taken : Taken) (new : PortState)
+-- the next record of the text is added
+pub step_add : (r : RecordReader) (p : PortState) (change : Change) (after : RecordReader) (line : ℕ) (taken : RecordOutcome) (new : PortState)
     → next_record r ≡ Ok (Some (record { change = change; after = after })) → length after.lines < length r.lines → is_add change ≡ true
     → line ≡ after.line → AddsOn change line p taken new → StepsOn r p taken after new
 step_add r p change after line Added new next shorter add at (op, now, reply, read, replies, accepted) = (
@@ -80,7 +83,7 @@ step_add r p change after line (Over filling) new next shorter add at (same, why
 )
 
 -- the record is no add
-pub step_other : (r : RecordReader) (p : PortState) (change : Change) (after : RecordReader) (line : ℕ) (taken : Taken)
+pub step_other : (r : RecordReader) (p : PortState) (change : Change) (after : RecordReader) (line : ℕ) (taken : RecordOutcome)
     → next_record r ≡ Ok (Some (record { change = change; after = after })) → is_add change ≡ false → line ≡ after.line
     → taken ≡ Over (Refused line cause.BadChange) → StepsOn r p taken after p
 step_other r p change after line taken next other at is =
@@ -97,7 +100,7 @@ step_other r p change after line taken next other at is =
     )
 
 -- the record's text is refused
-pub step_refused : (r after : RecordReader) (p : PortState) (fault : LdifFault) (taken : Taken)
+pub step_refused : (r after : RecordReader) (p : PortState) (fault : LdifFault) (taken : RecordOutcome)
     → next_record r ≡ Err fault → taken ≡ Over (Refused (line_of fault) (cause_of fault)) → StepsOn r p taken after p
 step_refused r after p fault taken refused is =
     subst (λ t. StepsOn r p t after p) (sym is)
@@ -105,6 +108,7 @@ step_refused r after p fault taken refused is =
 
 -- ---- all records
 
+-- a record, and then the others
 pub fills_more : (r : RecordReader) (p : PortState) (after : RecordReader) (between : PortState) (filling : Filling) (new : PortState)
     → StepsOn r p Added after between → FillsUp after between filling new → FillsUp r p filling new
 fills_more r p after between filling new (added, adds, shorter) later = record {
@@ -114,9 +118,11 @@ fills_more r p after between filling new (added, adds, shorter) later = record {
   ends = later.ends;
 }
 
+-- no record more
 pub fills_none : (r : RecordReader) (p : PortState) (filling : Filling) → EndsFilling r p filling → FillsUp r p filling p
 fills_none r p filling ends = record { added = []; after = r; fills = (refl, refl); ends = ends }
 
+-- a record, and then a part of the others
 pub part_more : (r : RecordReader) (p : PortState) (after : RecordReader) (between new : PortState)
     → StepsOn r p Added after between → FillsPart after between new → FillsPart r p new
 part_more r p after between new (added, adds, shorter) later = record {
@@ -125,5 +131,6 @@ part_more r p after between new (added, adds, shorter) later = record {
   fills = (after, between, adds, later.fills);
 }
 
+-- nothing is a part of the records
 pub part_none : (r : RecordReader) (p new : PortState) → new ≡ p → FillsPart r p new
 part_none r p new same = record { added = []; after = r; fills = (refl, same) }

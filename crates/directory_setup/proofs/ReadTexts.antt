@@ -1,5 +1,5 @@
 -- What was read of a file.
-use Rattle.std.proofs.Common.{◌≡◌, ℕ, ◌<◌, Bool, true, false, List, length, Option, Some, None, IfSome, is_some, refl, subst, ◌∙◌, arith}
+use Rattle.std.proofs.Common.{◌≡◌, ◌≢◌, ℕ, ◌<◌, Bool, true, false, List, length, Option, Some, None, IfSome, is_some, refl, subst, sym, ◌∙◌, arith}
 use Rattle.std.specs.Io.KnownBytes.{Consumes, IsAtEnd}
 use Rattle.sync_io.specs.Faults.{CountHasRisen, one_more}
 use Rattle.sync_io.specs.Shelf.{IsFile}
@@ -48,3 +48,7 @@ pub given_back : (old mid new before after : ℕ) → mid ≡ old → before ≡
 given_back old mid new before after same fresh rose counts =
     let some : 0 < after = omega (arith, fresh, rose) in
     omega (arith, counts some, same)
+
+-- a text came, so what holds unless a read failed does hold
+pub text_read : (Holds : Type 0) (file : FileText) (text : List ℕ) → file ≡ found.Text text → (file ≢ found.Failed → Holds) → Holds
+text_read Holds file text is holds = holds (λ failed. let wrong : found.Text text ≡ found.Failed = sym is ∙ failed in cc)

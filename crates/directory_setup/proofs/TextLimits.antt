@@ -33,12 +33,14 @@ bytes_passed before = Some (record { line = before + 1; limit = most_bytes })
 
 -- ---- lines
 
+-- with few line feeds there are not too many lines
 pub few_lines : (text : List ℕ) (count : ℕ) → count ≡ line_feeds (take (length text - 1) text) → count < most_lines → None ≡ too_many_lines text
 unfolding too_many_lines
 few_lines text count is few =
     other lines_passed None (nat_le most_lines (line_feeds (take (length text - 1) text)))
     (lt-leb most_lines (line_feeds (take (length text - 1) text)) (subst (λ n. n < most_lines) is few))
 
+-- with more there are, and the first one too many is named
 pub many_lines : (text : List ℕ) (count : ℕ) → count ≡ line_feeds (take (length text - 1) text) → most_lines ≤ count
     → Some (record { line = most_lines + 1; limit = most_lines }) ≡ too_many_lines text
 unfolding too_many_lines
@@ -64,6 +66,7 @@ late_bytes text before is late =
     (nat_lt most_bytes (length text)) (nat_lt (line_feeds (take most_bytes text)) most_lines)
     (le-ltb (line_feeds (take most_bytes text)) most_lines (subst (λ n. most_lines ≤ n) is late))
 
+-- with too many bytes the line of the first one too many is named
 pub many_bytes : (text : List ℕ) (before : ℕ) → before ≡ line_feeds (take most_bytes text) → most_bytes < length text → before < most_lines
     → Some (record { line = before + 1; limit = most_bytes }) ≡ too_long text
 unfolding too_long

@@ -10,8 +10,8 @@ use Rattle.schema_rules.specs.declared.raw.Change.{Change}
 use Rattle.schema_rules.specs.declared.raw.Change.TheVariants as change
 use Rattle.sync_provider.specs.Ports.{PortState, WriteReplies}
 use Rattle.sync_provider.specs.declared.writing.Reply.{Reply}
-use Rattle.directory_setup.specs.declared.filling.Taken as code
-use Rattle.directory_setup.specs.declared.filling.Taken.TheVariants.{Added, Over}
+use Rattle.directory_setup.specs.declared.filling.RecordOutcome as code
+use Rattle.directory_setup.specs.declared.filling.RecordOutcome.TheVariants.{Added, Over}
 use Rattle.directory_setup.specs.declared.filling.Filling.{Filling}
 use Rattle.directory_setup.specs.declared.filling.Filling.TheVariants.{Filled, Refused}
 use Rattle.directory_setup.specs.declared.refusal.LineCause.{LineCause}
@@ -122,7 +122,7 @@ pub record FillsPart (r : RecordReader) (p new : PortState) : Type 0 where
 -- ---- one record
 
 -- an entry of this record was added, or its code rejects it and nothing was done
-abbrev pub AddsOn : Change → (line : ℕ) → PortState → code.Taken → PortState → Type 0
+abbrev pub AddsOn : Change → (line : ℕ) → PortState → code.RecordOutcome → PortState → Type 0
 AddsOn change line p Added new =
     (op : Op) × (now : ℕ) × (reply : Reply) × (read_change change ≡ Ok op)
     × WriteReplies p op now reply new × (reply.code ≡ SUCCESS)
@@ -132,7 +132,8 @@ AddsOn change line p (Over filling) new =
 
 -- the next record was added, which leaves fewer lines, or none is left, or it is refused and
 -- nothing was done
-abbrev pub StepsOn : RecordReader → PortState → code.Taken → RecordReader → PortState → Type 0
+abbrev pub StepsOn : RecordReader → PortState → code.RecordOutcome → RecordReader → PortState
+    → Type 0
 StepsOn r p Added after new =
     (added : AddedRecord) × Adds added r p after new × (length after.lines < length r.lines)
 StepsOn r p (Over filling) after new = (new ≡ p) × EndsFilling r p filling

@@ -1,23 +1,26 @@
 -- What a served directory begins with, by its configuration.
-use Rattle.std.specs.Prelude.{◌≡◌, ◌⊎◌, ℕ, ◌+◌, ◌*◌, ◌^◌, ◌≤◌, List, [], Option, Some, None, Ok, false}
+use Rattle.std.specs.Prelude.{◌≡◌, ◌≢◌, ◌⊎◌, ℕ, ◌+◌, ◌*◌, ◌^◌, ◌≤◌, List, [], Option, Some, None, Ok, IfSome, IsSome, is_some, Bool, true, false}
 use Rattle.dn_names.specs.Names.{TypeAndValue}
 use Rattle.ldap_session.specs.declared.access.Access.{Access}
 use Rattle.ldap_session.specs.declared.access.Access.TheVariants.{Free, Named}
+use Rattle.ldap_filter.specs.FilterTree.{depth, tree_of}
 use Rattle.ldif_text.specs.Lines.{text_lines}
 use Rattle.ldif_text.specs.Reader.{RecordReader}
 use Rattle.sync_config.specs.Settings.{IsReadAs, Refuses}
 use Rattle.sync_config.specs.declared.config.Config.{Config}
 use Rattle.sync_config.specs.declared.fault.ConfigFault.{ConfigFault}
+use Rattle.sync_config.specs.declared.fault.ConfigFault.TheVariants.{NoMemory}
 use Rattle.sync_io.specs.Faults.{CountHasRisen}
 use Rattle.sync_provider.specs.Journal.{JournalledProvider, journal_in, port_state}
 use Rattle.sync_provider.specs.Machine as machine
 use Rattle.sync_provider.specs.Ports.{PortState}
-use Rattle.sync_provider.specs.declared.provider.Kind.TheVariants.{Root}
+use Rattle.sync_provider.specs.declared.provider.Kind.{Kind}
+use Rattle.sync_provider.specs.declared.provider.Kind.TheVariants.{Replica, Root}
 use Rattle.directory_setup.specs.Filling.{FillsUp}
 use Rattle.directory_setup.specs.Texts.{IsRead, too_long}
 use Rattle.directory_setup.specs.declared.filling.Filling.TheVariants as filling
-use Rattle.directory_setup.specs.declared.refusal.Refusal.{Refusal}
-use Rattle.directory_setup.specs.declared.refusal.Refusal.TheVariants.{InConfig, AtLine}
+use Rattle.directory_setup.specs.declared.refusal.SetupRefusal.{SetupRefusal}
+use Rattle.directory_setup.specs.declared.refusal.SetupRefusal.TheVariants.{InConfig, AtLine}
 use Rattle.directory_setup.specs.declared.refusal.LineCause.{LineCause}
 use Rattle.directory_setup.specs.declared.refusal.LineCause.TheVariants.{LimitReached}
 use Rattle.directory_setup.specs.declared.setup.QueueLimits.{QueueLimits}
@@ -41,24 +44,33 @@ access_by None password = Free
 access_by (Some name) None = Free
 access_by (Some name) (Some password) = Named name password
 
+-- the suffix of a directory, and how it takes its writes: one that follows another directory has
+-- the empty suffix, and takes commits
+abbrev pub place_of : Option (List (List TypeAndValue)) → (follows : Bool)
+    → List (List TypeAndValue) × Kind
+place_of suffix true = ([], Replica)
+place_of None false = ([], Root)
+place_of (Some name) false = (name, Root)
+
 -- an empty directory, whose history is two random words
-abbrev pub first_of : List (List TypeAndValue) → (sid : ℕ) → QueueLimits → (first second : ℕ)
+abbrev pub first_of : List (List TypeAndValue) → Kind → (sid : ℕ) → QueueLimits
+    → (first second : ℕ)
     → machine.ProviderState
-first_of suffix sid limits first second =
+first_of suffix kind sid limits first second =
     machine.queue_limited
-    (machine.log_limited (machine.fresh suffix sid (first * 2 ^ 64 + second) Root) limits.log)
+    (machine.log_limited (machine.fresh suffix sid (first * 2 ^ 64 + second) kind) limits.log)
     limits.queue
 
 pub record IsEmpty
-    (suffix : List (List TypeAndValue)) (sid : ℕ) (limits : QueueLimits)
+    (suffix : List (List TypeAndValue)) (kind : Kind) (sid : ℕ) (limits : QueueLimits)
     (first : JournalledProvider) : Type 0 where
   pub one : ℕ
   pub other : ℕ
-  pub first_is : first.state ≡ first_of suffix sid limits one other
+  pub first_is : first.state ≡ first_of suffix kind sid limits one other
   pub unused : journal_in first ≡ []
 
 -- the text of a file is refused: it is too long
-pub record IsTooLong (text : List ℕ) (refusal : Refusal) : Type 0 where
+pub record IsTooLong (text : List ℕ) (refusal : SetupRefusal) : Type 0 where
   pub line : ℕ
   pub limit : ℕ
   pub passed : too_long text ≡ Some (record { line = line; limit = limit })
@@ -74,11 +86,12 @@ abbrev pub IsReadFrom : Option Files → List ℕ → FileText → Type 0
 IsReadFrom files name (found.Text text) = IsTextOf files name text
 IsReadFrom files name found.Failed = Unit {0}
 
--- why the text of a configuration is refused
-abbrev pub IsRefusedConfig : List ℕ → Refusal → Type 0
+-- why the text of a configuration is refused, which out of memory is no reason for
+abbrev pub IsRefusedConfig : List ℕ → SetupRefusal → Type 0
 IsRefusedConfig text refusal =
     IsTooLong text refusal
-    ⊎ ((fault : ConfigFault) × Refuses text fault × (refusal ≡ InConfig fault))
+    ⊎ ((fault : ConfigFault) × (fault ≢ NoMemory) × Refuses text fault
+    × (refusal ≡ InConfig fault))
 
 -- the text of a file that is read as this configuration
 pub record IsConfig (files : Option Files) (name : List ℕ) (config : Config) : Type 0 where
@@ -98,12 +111,19 @@ Configures files name (configured.Refused refusal) =
     (text : List ℕ) × IsTextOf files name text × IsRefusedConfig text refusal
 Configures files name configured.ReadFault = Unit {0}
 
+-- the filter of what a configuration follows can be asked for
+abbrev pub IsAskable : Configured → Type 0
+IsAskable (configured.Config config) =
+    IfSome config.upstream (λ upstream. depth (tree_of upstream.spec.filter) ≤ 32)
+IsAskable (configured.Refused refusal) = Unit {0}
+IsAskable configured.ReadFault = Unit {0}
+
 -- the empty directory of a configuration
 pub record IsFirst (config : Config) (first : JournalledProvider) : Type 0 where
-  pub suffix : List (List TypeAndValue)
-  pub suffix_is : config.suffix ≡ Some suffix
+  pub placed : is_some config.upstream ≡ false → IsSome config.suffix
   pub empty :
-      IsEmpty suffix config.sid
+      IsEmpty (place_of config.suffix (is_some config.upstream)).0
+      (place_of config.suffix (is_some config.upstream)).1 config.sid
       (record { log = config.log_limit; queue = config.queue_limit })
       first
 
@@ -119,7 +139,7 @@ IsFilledBy files (Some name) first new =
     × FillsUp (reader_of text) first filling.Filled new
 
 -- a record of the file is refused, or its text is too long
-abbrev pub IsRefusedFile : Option Files → Option (List ℕ) → PortState → Refusal → Type 0
+abbrev pub IsRefusedFile : Option Files → Option (List ℕ) → PortState → SetupRefusal → Type 0
 IsRefusedFile files None first refusal = ⊥
 IsRefusedFile files (Some name) first refusal =
     (text : List ℕ) × IsTextOf files name text
@@ -145,6 +165,8 @@ pub record IsMade (files : Option Files) (config : Config) (ready : ReadyDirecto
   pub access : ready.access ≡ access_by config.bind_name config.bind_password
   pub seats : ready.seats ≡ config.seats
   pub connections : ready.connections ≡ config.connections
+  pub upstream : ready.upstream ≡ config.upstream
+  pub rounds : ready.rounds ≡ config.rounds
 
 -- what it leads to that a file was loaded into a directory, or was not
 abbrev pub setup_of : Loading → ReadyDirectory → code.Setup
@@ -165,7 +187,7 @@ IsReady files name ready =
     (config : Config) × IsConfig files name config × IsMade files config ready
 
 -- the configuration is refused, or the file that it names
-abbrev pub IsRefusedSetup : Option Files → List ℕ → Refusal → Type 0
+abbrev pub IsRefusedSetup : Option Files → List ℕ → SetupRefusal → Type 0
 IsRefusedSetup files name refusal =
     Configures files name (configured.Refused refusal)
     ⊎ ((config : Config) × IsConfig files name config × Makes files config (Refused refusal))
@@ -176,15 +198,22 @@ SetsUp files name (Ready ready) = IsReady files name ready
 SetsUp files name (Refused refusal) = IsRefusedSetup files name refusal
 SetsUp files name ReadFault = Unit {0}
 
+-- the filter of what is followed can be asked for
+abbrev pub HasFilter : code.Setup → Type 0
+HasFilter (Ready ready) =
+    IfSome ready.upstream (λ upstream. depth (tree_of upstream.spec.filter) ≤ 32)
+HasFilter (Refused refusal) = Unit {0}
+HasFilter ReadFault = Unit {0}
+
 -- what is served has 1 to 64 seats
 abbrev pub HasSeats : code.Setup → Type 0
 HasSeats (Ready ready) = (1 ≤ ready.seats) × (ready.seats ≤ 64)
 HasSeats (Refused refusal) = Unit {0}
 HasSeats ReadFault = Unit {0}
 
--- a file or the source of random words failed
+-- a read fault comes where a file or the source of random words failed, and else neither did
 abbrev pub FailsOn : code.Setup → (shelf shelf' words words' : ℕ) → Type 0
-FailsOn (Ready ready) shelf shelf' words words' = Unit {0}
-FailsOn (Refused refusal) shelf shelf' words words' = Unit {0}
+FailsOn (Ready ready) shelf shelf' words words' = (shelf' ≡ shelf) × (words' ≡ words)
+FailsOn (Refused refusal) shelf shelf' words words' = (shelf' ≡ shelf) × (words' ≡ words)
 FailsOn ReadFault shelf shelf' words words' =
     CountHasRisen shelf shelf' ⊎ CountHasRisen words words'

@@ -26,7 +26,7 @@ pub enum Filling {
 
 /// What became of the next record.
 #[derive(Clone, Copy, Debug, PartialEq, Eq)]
-pub(crate) enum Taken {
+pub(crate) enum RecordOutcome {
     /// Its entry was added.
     Added,
     /// There is none, or it is refused.
@@ -43,10 +43,10 @@ fn is_add(change: &Change) -> bool
 }
 
 /// The text is refused at this line.
-fn refused(line: u64, cause: LineCause) -> Taken
-    ensures { result ≡ Taken.Over (Filling.Refused line cause) }
+fn refused(line: u64, cause: LineCause) -> RecordOutcome
+    ensures { result ≡ RecordOutcome.Over (Filling.Refused line cause) }
 {
-    Taken::Over(Filling::Refused(line, cause))
+    RecordOutcome::Over(Filling::Refused(line, cause))
 }
 
 /// Adds an entry, which is refused at this line where its code is not success.
@@ -56,7 +56,7 @@ fn add(
     change: &Change,
     line: u64,
     now: u64,
-) -> Result<Taken, NoMemory>
+) -> Result<RecordOutcome, NoMemory>
     ensures adds { IfOk result (λ taken. AddsOn change.now line (port_state provider.old) taken
         (port_state provider.new)) }
     ensures err { OnErr result (port_state provider.new ≡ port_state provider.old) }
@@ -70,7 +70,7 @@ fn add(
     };
     let code = provider.write(op, now).code;
     if code == SUCCESS {
-        return Ok(Taken::Added);
+        return Ok(RecordOutcome::Added);
     }
     if code == OTHER {
         return Err(AllocError);
@@ -84,7 +84,7 @@ fn add_next<K: Clock>(
     provider: &mut Provider,
     records: &mut Records<'_>,
     clock: &mut K,
-) -> Result<Taken, NoMemory>
+) -> Result<RecordOutcome, NoMemory>
     ensures steps { IfOk result (λ taken. StepsOn records.old (port_state provider.old) taken
         records.new (port_state provider.new)) }
     ensures err { OnErr result (port_state provider.new ≡ port_state provider.old) }
@@ -97,7 +97,7 @@ fn add_next<K: Clock>(
             }
             add(alloc, provider, &change, line, clock.now())
         }
-        Ok(None) => Ok(Taken::Over(Filling::Filled)),
+        Ok(None) => Ok(RecordOutcome::Over(Filling::Filled)),
         Err(LdifFault::BadLine(line)) => Ok(refused(line, LineCause::BadLine)),
         Err(LdifFault::BadBase64(line)) => Ok(refused(line, LineCause::BadBase64)),
         Err(LdifFault::BadChange(line)) => Ok(refused(line, LineCause::BadChange)),
@@ -122,8 +122,8 @@ pub fn fill<K: Clock>(
     'records: loop {
         let taken = add_next(alloc, provider, &mut records, clock)?;
         match taken {
-            Taken::Added => {}
-            Taken::Over(filling) => return Ok(filling),
+            RecordOutcome::Added => {}
+            RecordOutcome::Over(filling) => return Ok(filling),
         }
     }
 }

@@ -9,6 +9,6 @@ mod text_file;
 mod text_limits;
 
 pub use filling::{Filling, fill};
-pub use refusal::{LineCause, Refusal, TooLong};
+pub use refusal::{LineCause, SetupRefusal, TooLong};
 pub use setup::{ReadyDirectory, Setup, set_up};
 pub use text_file::{FileText, read_file};

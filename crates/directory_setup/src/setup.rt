@@ -1,23 +1,41 @@
 //! What a served directory begins with.
 
-ghost use Rattle.std.specs.Prelude.{◌≡◌, ◌<◌, ◌≤◌, ℕ, ◌+◌, ◌*◌, ◌^◌, IfOk, IfSome, IsNone};
+ghost use Rattle.std.specs.Prelude.{
+  ◌≡◌,
+  ◌≢◌,
+  ◌<◌,
+  ◌≤◌,
+  ℕ,
+  ◌+◌,
+  ◌*◌,
+  ◌^◌,
+  IfOk,
+  IfSome,
+  IsNone,
+  IsSome,
+  is_some,
+};
 ghost use Rattle.directory_setup.specs.Setup.{
   Configures,
   FailsOn,
+  HasFilter,
   HasSeats,
+  IsAskable,
   IsEmpty,
   IsReadConfig,
   Loads,
   Makes,
   SetsUp,
   access_by,
+  place_of,
   setup_of,
 };
+ghost use Rattle.ldap_filter.specs.FilterTree.{depth, tree_of};
 ghost use Rattle.sync_io.specs.Faults.{CountHasRisen};
 ghost use Rattle.sync_provider.specs.Journal.{port_state};
 
 use crate::filling::{Filling, fill};
-use crate::refusal::{LineCause, Refusal};
+use crate::refusal::{LineCause, SetupRefusal};
 use crate::text_file::{FileText, read_file};
 use crate::text_limits::too_long;
 use dn_names::Dn;
@@ -25,7 +43,7 @@ use ldap_ber::{NoMemory, Octets, discard};
 use ldap_session::Access;
 use std::alloc::{AllocError, Global};
 use std::sync::Wait;
-use sync_config::{Config, ConfigFault, Text};
+use sync_config::{Config, ConfigFault, ConfigText, Upstream};
 use sync_io::{Clock, Shelf, Words};
 use sync_provider::{Kind, Provider};
 
@@ -34,20 +52,24 @@ use sync_provider::{Kind, Provider};
 pub struct ReadyDirectory {
     pub provider: Provider,
     /// The address at which it is served.
-    pub listen: Text,
+    pub listen: ConfigText,
     /// Who may write.
     pub access: Access,
     /// How many connections are served at once.
     pub seats: u32,
     /// How many connections are served in all, or 0 without end.
     pub connections: u64,
+    /// The directory that it follows.
+    pub upstream: Option<Upstream>,
+    /// How many connections to that are tried, or 0 without end.
+    pub rounds: u64,
 }
 
 /// What a configuration led to.
 #[derive(Drop)]
 pub enum Setup {
     Ready(ReadyDirectory),
-    Refused(Refusal),
+    Refused(SetupRefusal),
     /// A file could not be read, or no random word came.
     ReadFault,
 }
@@ -56,7 +78,7 @@ pub enum Setup {
 #[derive(Drop)]
 pub(crate) enum Configured {
     Config(Config),
-    Refused(Refusal),
+    Refused(SetupRefusal),
     ReadFault,
 }
 
@@ -82,7 +104,11 @@ pub(crate) struct QueueLimits {
 }
 
 /// Who may write by a configuration.
-fn access_of(alloc: Global, name: Option<Dn>, password: &Option<Text>) -> Result<Access, NoMemory>
+fn access_of(
+    alloc: Global,
+    name: Option<Dn>,
+    password: &Option<ConfigText>,
+) -> Result<Access, NoMemory>
     ensures { IfOk result (λ access. access ≡ access_by name password.now) }
 {
     let Some(name) = name else {
@@ -106,8 +132,11 @@ fn configure<R: Wait, F: Shelf>(
 ) -> Result<Configured, NoMemory>
     ensures files { F.files shelf.new ≡ F.files shelf.old }
     ensures configures { IfOk result (Configures (F.files shelf.old) name.now) }
+    ensures filter { IfOk result IsAskable }
     ensures failed { IfOk result (λ found. found ≡ Configured.ReadFault
         → CountHasRisen (F.shelf_fault_count shelf.old) (F.shelf_fault_count shelf.new)) }
+    ensures sound { IfOk result (λ found. found ≢ Configured.ReadFault
+        → F.shelf_fault_count shelf.new ≡ F.shelf_fault_count shelf.old) }
     ensures later { F.shelf_fault_count shelf.old ≤ F.shelf_fault_count shelf.new }
 {
     let found = read_file(rt, alloc, shelf, name)?;
@@ -118,12 +147,25 @@ fn configure<R: Wait, F: Shelf>(
     let bytes = text.as_slice();
     if let Some(passed) = too_long(bytes) {
         let cause = LineCause::LimitReached(passed.limit);
-        return Ok(Configured::Refused(Refusal::AtLine(passed.line, cause)));
+        return Ok(Configured::Refused(SetupRefusal::AtLine(passed.line, cause)));
     }
     match Config::read(alloc, bytes) {
         Ok(config) => Ok(Configured::Config(config)),
-        Err(ConfigFault::NoMemory) => Err(AllocError),
-        Err(fault) => Ok(Configured::Refused(Refusal::InConfig(fault))),
+        Err(fault) => {
+            let refusal = refusal_by(fault)?;
+            Ok(Configured::Refused(refusal))
+        }
+    }
+}
+
+/// The refusal of a configuration with this fault. It is `NoMemory` where memory ran out.
+fn refusal_by(fault: ConfigFault) -> Result<SetupRefusal, NoMemory>
+    ensures { IfOk result (λ refusal. (fault ≢ ConfigFault.NoMemory)
+        × (refusal ≡ SetupRefusal.InConfig fault)) }
+{
+    match fault {
+        ConfigFault::NoMemory => Err(AllocError),
+        _ => Ok(SetupRefusal::InConfig(fault)),
     }
 }
 
@@ -133,6 +175,7 @@ fn history_of<W: Words>(random: &mut W) -> Option<u128>
         × (history ≡ first * 2 ^ 64 + second)) }
     ensures failed { IsNone result
         → CountHasRisen (W.word_fault_count random.old) (W.word_fault_count random.new) }
+    ensures sound { IsSome result → W.word_fault_count random.new ≡ W.word_fault_count random.old }
     ensures later { W.word_fault_count random.old ≤ W.word_fault_count random.new }
 {
     let Some(first) = random.next_word() else {
@@ -150,7 +193,7 @@ fn load<R: Wait, F: Shelf, K: Clock>(
     alloc: Global,
     provider: &mut Provider,
     shelf: &mut F,
-    name: &Option<Text>,
+    name: &Option<ConfigText>,
     clock: &mut K,
 ) -> Result<Loading, NoMemory>
     ensures files { F.files shelf.new ≡ F.files shelf.old }
@@ -158,6 +201,8 @@ fn load<R: Wait, F: Shelf, K: Clock>(
         (port_state provider.old) loading (port_state provider.new)) }
     ensures failed { IfOk result (λ loading. loading ≡ Loading.NotRead
         → CountHasRisen (F.shelf_fault_count shelf.old) (F.shelf_fault_count shelf.new)) }
+    ensures sound { IfOk result (λ loading. loading ≢ Loading.NotRead
+        → F.shelf_fault_count shelf.new ≡ F.shelf_fault_count shelf.old) }
     ensures later { F.shelf_fault_count shelf.old ≤ F.shelf_fault_count shelf.new }
 {
     let Some(name) = name else {
@@ -180,24 +225,41 @@ fn load<R: Wait, F: Shelf, K: Clock>(
     }
 }
 
+/// The suffix of a directory, and how it takes its writes: one that follows another directory has
+/// the entries of that, below no suffix of its own. A configuration has an upstream or a suffix.
+fn place_of(alloc: Global, suffix: Option<Dn>, upstream: &Option<Upstream>) -> (Dn, Kind)
+    ensures { (result.0, result.1) ≡ place_of suffix (is_some upstream.now) }
+{
+    match upstream {
+        Some(_) => (Dn::empty(alloc), Kind::Replica),
+        None => match suffix {
+            Some(suffix) => (suffix, Kind::Root),
+            None => (Dn::empty(alloc), Kind::Root),
+        },
+    }
+}
+
 /// The empty directory of a configuration, or None where no random word came.
 fn first_of<W: Words>(
     alloc: Global,
-    suffix: Dn,
+    place: (Dn, Kind),
     sid: u16,
     limits: QueueLimits,
     random: &mut W,
 ) -> Result<Option<Provider>, NoMemory>
     requires { sid < 4096 }
-    ensures first { IfOk result (λ found. IfSome found (IsEmpty suffix sid limits)) }
+    ensures first { IfOk result (λ found. IfSome found (IsEmpty place.0 place.1 sid limits)) }
     ensures failed { IfOk result (λ found. IsNone found
         → CountHasRisen (W.word_fault_count random.old) (W.word_fault_count random.new)) }
+    ensures sound { IfOk result (λ found. IsSome found
+        → W.word_fault_count random.new ≡ W.word_fault_count random.old) }
     ensures later { W.word_fault_count random.old ≤ W.word_fault_count random.new }
 {
     let Some(history) = history_of(random) else {
         return Ok(None);
     };
-    let mut provider = Provider::new(alloc, suffix, sid, history, Kind::Root)?;
+    let (suffix, kind) = place;
+    let mut provider = Provider::new(alloc, suffix, sid, history, kind)?;
     provider.set_log_limit(limits.log);
     provider.set_queue_limit(limits.queue);
     Ok(Some(provider))
@@ -212,10 +274,13 @@ fn make<R: Wait, F: Shelf, K: Clock, W: Words>(
     clock: &mut K,
     random: &mut W,
 ) -> Result<Setup, NoMemory>
-    requires { IsReadConfig config }
+    requires read { IsReadConfig config }
+    requires filter { IfSome config.upstream
+        (λ upstream. depth (tree_of upstream.spec.filter) ≤ 32) }
     ensures files { F.files shelf.new ≡ F.files shelf.old }
     ensures makes { IfOk result (Makes (F.files shelf.old) config) }
     ensures seats { IfOk result HasSeats }
+    ensures filter { IfOk result HasFilter }
     ensures failed { IfOk result (λ setup. FailsOn setup
         (F.shelf_fault_count shelf.old) (F.shelf_fault_count shelf.new)
         (W.word_fault_count random.old) (W.word_fault_count random.new)) }
@@ -233,14 +298,16 @@ fn make<R: Wait, F: Shelf, K: Clock, W: Words>(
         bind_password,
         seats,
         connections,
+        upstream,
+        rounds,
     } = config;
-    let Some(suffix) = suffix else { unreachable!() };
+    let place = place_of(alloc, suffix, &upstream);
     let access = access_of(alloc, bind_name, &bind_password)?;
     let limits = QueueLimits {
         log: log_limit,
         queue: queue_limit,
     };
-    let first = first_of(alloc, suffix, sid, limits, random)?;
+    let first = first_of(alloc, place, sid, limits, random)?;
     let Some(mut provider) = first else {
         return Ok(Setup::ReadFault);
     };
@@ -252,6 +319,8 @@ fn make<R: Wait, F: Shelf, K: Clock, W: Words>(
                 access,
                 seats,
                 connections,
+                upstream,
+                rounds,
             };
             Ok(setup_of(loading, ready))
         }
@@ -270,7 +339,7 @@ fn setup_of(loading: Loading, ready: ReadyDirectory) -> Setup
         Loading::Loaded => Setup::Ready(ready),
         Loading::RefusedAt(line, cause) => {
             discard(ready);
-            Setup::Refused(Refusal::AtLine(line, cause))
+            Setup::Refused(SetupRefusal::AtLine(line, cause))
         }
         Loading::NotRead => {
             discard(ready);
@@ -292,6 +361,7 @@ pub fn set_up<R: Wait, F: Shelf, K: Clock, W: Words>(
     ensures files { F.files shelf.new ≡ F.files shelf.old }
     ensures sets_up { IfOk result (SetsUp (F.files shelf.old) name.now) }
     ensures seats { IfOk result HasSeats }
+    ensures filter { IfOk result HasFilter }
     ensures failed { IfOk result (λ setup. FailsOn setup
         (F.shelf_fault_count shelf.old) (F.shelf_fault_count shelf.new)
         (W.word_fault_count random.old) (W.word_fault_count random.new)) }

@@ -1,6 +1,6 @@
 //! The texts of files.
 
-ghost use Rattle.std.specs.Prelude.{◌≡◌, ◌≤◌, IfOk};
+ghost use Rattle.std.specs.Prelude.{◌≡◌, ◌≢◌, ◌≤◌, IfOk};
 ghost use Rattle.directory_setup.specs.Setup.{IsReadFrom};
 ghost use Rattle.directory_setup.specs.Texts.{IsReadOf};
 ghost use Rattle.directory_setup.specs.declared.text_file.FileText.TheVariants.{Failed};
@@ -26,6 +26,8 @@ fn read_text<R: Wait, S: Source>(rt: &R, alloc: Global, file: &mut S) -> Result<
     ensures text { IfOk result (IsReadOf (S.bytes_left file.old)) }
     ensures failed { IfOk result (λ found. found ≡ Failed
         → CountHasRisen (S.read_fault_count file.old) (S.read_fault_count file.new)) }
+    ensures sound { IfOk result (λ found. found ≢ Failed
+        → S.read_fault_count file.new ≡ S.read_fault_count file.old) }
     ensures later { S.read_fault_count file.old ≤ S.read_fault_count file.new }
 {
     let mut text = Vec::new(alloc);
@@ -59,6 +61,8 @@ pub fn read_file<R: Wait, F: Shelf>(
     ensures text { IfOk result (IsReadFrom (F.files shelf.old) name.now) }
     ensures failed { IfOk result (λ found. found ≡ Failed
         → CountHasRisen (F.shelf_fault_count shelf.old) (F.shelf_fault_count shelf.new)) }
+    ensures sound { IfOk result (λ found. found ≢ Failed
+        → F.shelf_fault_count shelf.new ≡ F.shelf_fault_count shelf.old) }
     ensures later { F.shelf_fault_count shelf.old ≤ F.shelf_fault_count shelf.new }
 {
     match shelf.fetch(name) {

@@ -153,6 +153,7 @@ refusal_capped count kept last weight capped now is =
     (cond b (Some (LimitReached most_writes_weight)) (cond (is_none (next_csn now last)) (Some (LimitReached greatest_count)) None)))
     (ap (λ w. nat_lt most_writes_weight (kept + w)) is ∙ capped_heavy kept weight)
 
+-- a weight that no number of 64 bits counts is refused as the greatest one is
 pub log_capped : (d : DirectoryState) (weight capped now : ℕ) → capped ≡ min weight (2 ^ 64 - 1) → log_refusal d capped now ≡ log_refusal d weight now
 log_capped d weight capped now is = refusal_capped (length d.writes) (kept_weight d.writes) (last_csn_of d) weight capped now is
 
@@ -162,6 +163,7 @@ first_opposed first second (LimitReached limit) is = ap (λ o. option_or o secon
 first_opposed first second (DuplicateName one other) is = ap (λ o. option_or o second) is
 first_opposed first second NoMemory is = is
 
+-- where the first cause rejects nothing, the second one decides
 pub second_opposed : (first second : Option DirectoryCommitFault) (fault : DirectoryCommitFault) → first ≡ None → Rejects second fault → Rejects (option_or first second) fault
 second_opposed first second fault none is = subst (λ o. Rejects (option_or o second) fault) (sym none) is
 

@@ -22,6 +22,7 @@ Name = List (List TypeAndValue)
 
 -- ---- one more write
 
+-- a write that is accepted after others makes them one more
 pub accepted-push_from : (suffix : Name) (history : ℕ) (entries : List Entry) (before : ℕ) (writes : List Write) (w : Write)
     → IsAccepted suffix (state_from history entries before writes) w.op → AreAcceptedFrom suffix history entries before writes
     → AreAcceptedFrom suffix history entries before (writes ++ w ∷ [])

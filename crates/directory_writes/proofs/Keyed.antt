@@ -1,11 +1,15 @@
 -- What is kept in a map at its keys, which are numbers.
 use Rattle.std.proofs.Common.{◌≡◌, ◌≢◌, ◌<◌, ◌⊎◌, ℕ, Bool, true, false, cond, List, [], ◌∷◌, Option, Some, None, refl, ap, sym, ◌∙◌, inl, inr, arith}
+use Rattle.std.specs.Prelude.{not, nat_eq, filter}
 use Rattle.std.specs.Cmp.{nat_cmp_is}
-use Rattle.std.specs.Map.{lookup, remove_entry, set_value}
+use Rattle.std.specs.List.{AllByRecursion}
+use Rattle.std.specs.List.Sorted.{IsStrictlySortedBy}
+use Rattle.std.specs.Map.{keys_of, lookup, remove_entry, set_value}
 use Rattle.std.specs.BTreeMap.{insert_entry, is_at}
 use Rattle.std.specs.Ordering.{nat_cmp, is_eq, match_ordering}
 use Rattle.std.specs.declared.cmp.Ordering.TheVariants.{Less, Equal, Greater}
-use Rattle.std.proofs.lemmas.Bool.{cases_order, false≢true}
+use Rattle.std.proofs.lemmas.Bool.{cases_order, eq-eqb, eqb-false, eqb-true, ne_eqb, false≢true}
+use Rattle.std.proofs.lemmas.Map.Keys.{sorted_head, sorted_tail}
 
 abbrev Order : ℕ → ℕ → Type 0
 Order a b = (a ≡ b) ⊎ ((a < b) ⊎ (b < a))
@@ -101,6 +105,49 @@ closed-other (e ∷ es) k q far = by (closed-other es k q far) (is_at (nat_cmp k
     by : kept_at (closed_at es k) q ≡ kept_at es q → (b : Bool) → is_at (nat_cmp k) e.0 ≡ b → kept_at (cond b es (e ∷ closed_at es k)) q ≡ kept_at (e ∷ es) q
     by rest true hit = sym (ap (λ b. cond b (Some e.1) (kept_at es q)) (is_at-other q e.0 (λ is. far (is ∙ sym (at-is k e.0 hit)))))
     by rest false miss = ap (cond (is_at (nat_cmp q) e.0) (Some e.1)) rest
+
+-- a map without the pairs of a key
+abbrev pub dropped_at : {X : Type 0} → List (ℕ × X) → ℕ → List (ℕ × X)
+dropped_at es k = filter (λ e. not (nat_eq e.0 k)) es
+
+-- it has nothing of the key
+pub dropped-same : {X : Type 0} (es : List (ℕ × X)) (k : ℕ) → kept_at (dropped_at es k) k ≡ None
+dropped-same [] k = refl
+dropped-same (e ∷ es) k = by (dropped-same es k) (nat_eq e.0 k) refl
+  where
+    by : kept_at (dropped_at es k) k ≡ None → (b : Bool) → nat_eq e.0 k ≡ b → kept_at (cond (not b) (e ∷ dropped_at es k) (dropped_at es k)) k ≡ None
+    by rest true hit = rest
+    by rest false miss = ap (λ b. cond b (Some e.1) (kept_at (dropped_at es k) k)) (is_at-other k e.0 (λ same. eqb-false e.0 k miss (sym same))) ∙ rest
+
+-- and the same of other keys
+pub dropped-other : {X : Type 0} (es : List (ℕ × X)) (k q : ℕ) → q ≢ k → kept_at (dropped_at es k) q ≡ kept_at es q
+dropped-other [] k q far = refl
+dropped-other (e ∷ es) k q far = by (dropped-other es k q far) (nat_eq e.0 k) refl
+  where
+    by : kept_at (dropped_at es k) q ≡ kept_at es q → (b : Bool) → nat_eq e.0 k ≡ b → kept_at (cond (not b) (e ∷ dropped_at es k) (dropped_at es k)) q ≡ kept_at (e ∷ es) q
+    by rest true hit = rest ∙ sym (ap (λ b. cond b (Some e.1) (kept_at es q)) (is_at-other q e.0 (λ same. far (same ∙ eqb-true e.0 k hit))))
+    by rest false miss = ap (cond (is_at (nat_cmp q) e.0) (Some e.1)) rest
+
+none_dropped : {X : Type 0} (first : ℕ) (es : List (ℕ × X)) (k : ℕ) → first ≡ k → AllByRecursion (λ s. nat_cmp first s ≡ Less) (keys_of es) → dropped_at es k ≡ es
+none_dropped first [] k same above = refl
+none_dropped first (e ∷ es) k same above =
+    ap (λ b. cond (not b) (e ∷ dropped_at es k) (dropped_at es k)) (ne_eqb e.0 k apart) ∙ ap (λ xs. e ∷ xs) (none_dropped first es k same above.1)
+  where
+    apart : e.0 ≡ k → ⊥
+    apart here = let equal : Less ≡ Equal = sym above.0 ∙ same_cmp first e.0 (same ∙ sym here) in absurd (cc)
+
+-- where keys ascend, a key that is taken out leaves no pair of it
+pub closed-dropped : {X : Type 0} (es : List (ℕ × X)) (k : ℕ) → IsStrictlySortedBy nat_cmp (keys_of es) → closed_at es k ≡ dropped_at es k
+closed-dropped [] k sorted = refl
+closed-dropped (e ∷ es) k sorted = by (closed-dropped es k (sorted_tail nat_cmp e.0 (keys_of es) sorted)) (is_at (nat_cmp k) e.0) refl
+  where
+    by : closed_at es k ≡ dropped_at es k → (b : Bool) → is_at (nat_cmp k) e.0 ≡ b → cond b es (e ∷ closed_at es k) ≡ dropped_at (e ∷ es) k
+    by rest true hit =
+        let here : e.0 ≡ k = sym (at-is k e.0 hit) in
+        sym (none_dropped e.0 es k here (sorted_head nat_cmp e.0 (keys_of es) sorted)) ∙ sym (ap (λ b. cond (not b) (e ∷ dropped_at es k) (dropped_at es k)) (eq-eqb e.0 k here))
+    by rest false miss =
+        ap (λ xs. e ∷ xs) rest
+        ∙ sym (ap (λ b. cond (not b) (e ∷ dropped_at es k) (dropped_at es k)) (ne_eqb e.0 k (λ same. false≢true (sym miss ∙ is_at-same k e.0 (sym same)))))
 
 -- a map with another value of a key that it has
 abbrev pub put_on : {X : Type 0} → List (ℕ × X) → ℕ → X → List (ℕ × X)

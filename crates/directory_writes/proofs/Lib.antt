@@ -9,6 +9,7 @@ pub mod Promised
 pub mod Pushed
 pub mod Served
 pub mod SortedIdentities
+pub mod Stamped
 pub mod Csns
 pub mod Notified
 pub mod TouchedBy

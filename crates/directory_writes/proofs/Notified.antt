@@ -32,6 +32,7 @@ Agree f g upto = (n : ℕ) → n ≤ upto → f n ≡ g n
 pub agree-longer : (history : ℕ) (writes more : List Write) → Agree (state_of history (writes ++ more)) (state_of history writes) (length writes)
 agree-longer history writes more n low = ap (state_from history [] 0) (take-append-le n writes more low)
 
+-- what differs between neighbours depends on these states alone
 pub over-agree : (steps : ℕ) (f g : ℕ → List Entry) (from : ℕ) → Agree f g (from + steps) → differing_over f from steps ≡ differing_over g from steps
 over-agree zero f g from h = over_none f from ∙ sym (over_none g from)
 over-agree (suc steps) f g from h =
@@ -143,6 +144,7 @@ noted_each-is (u ∷ uuids) number all log is =
 
 -- ---- the numbers of the last touches
 
+-- the last touch is that of one of the writes
 pub last-low : (count : ℕ) (f : ℕ → List Entry) (u : ℕ) → last_touch f count u ≤ count
 last-low zero f u = omega arith
 last-low (suc count) f u = step (is_one_found (entry_at (f count) u) (entry_at (f (count + 1)) u)) (last-low count f u) where

@@ -1,10 +1,11 @@
 -- What one more write makes of the parts that are kept beside the writes, and what later writes leave of an earlier state.
-use Rattle.std.proofs.Common.{◌≡◌, ◌<◌, ◌+◌, ℕ, List, [], ◌∷◌, ◌++◌, length, take, refl, ap, sym, ◌∙◌, arith, subst, append-nil}
-use Rattle.std.specs.Prelude.{◌≤◌, nat_lt, nat_le, true, cond, Option, Some, None, Result, Ok, Err, IfOk}
+use Rattle.std.proofs.Common.{◌≡◌, ◌<◌, ◌+◌, ◌⊎◌, ℕ, List, [], ◌∷◌, ◌++◌, length, take, refl, ap, sym, ◌∙◌, arith, subst, append-nil}
+use Rattle.std.specs.Prelude.{◌≤◌, nat_lt, nat_le, true, false, cond, Option, Some, None, Result, Ok, Err, IfOk}
 use Rattle.std.proofs.Math.Seq.{take-append_seam}
 use Rattle.std.proofs.lemmas.List.Sums.{sum_by-append}
 use Rattle.std.proofs.lemmas.Bool.{and_parts, leb-true, ltb-true}
 use Rattle.std.proofs.lemmas.List.{length_push}
+use Rattle.std.proofs.lemmas.List.Elements.{All-nil, All-push}
 use Rattle.ldap_constants.specs.declared.result_codes.TheConstants.{ADMIN_LIMIT_EXCEEDED}
 use Rattle.csn_cookie.specs.Csn.{CsnValue, start}
 use Rattle.dn_names.specs.Names.{TypeAndValue}
@@ -12,6 +13,7 @@ use Rattle.entry_tree.specs.Codes.{code_of}
 use Rattle.entry_tree.specs.Effects.{effect}
 use Rattle.entry_tree.specs.Fault.{HasOpCode}
 use Rattle.entry_tree.specs.History.{identity, state_from, state_of}
+use Rattle.entry_tree.specs.Sound.{is_commit}
 use Rattle.entry_tree.specs.State.{entry_at, ascends, same_named}
 use Rattle.entry_tree.specs.Touched.{touched, with_changes, CanBeMade}
 use Rattle.entry_tree.specs.declared.entry.Entry.{Entry}
@@ -21,10 +23,11 @@ use Rattle.entry_tree.specs.declared.op.Op.{Op}
 use Rattle.entry_tree.specs.declared.op.Write.{Write}
 use Rattle.entry_tree.specs.declared.touched.EntryChange.{EntryChange}
 use Rattle.sync_model.proofs.Histories.{ascends-state_of}
-use Rattle.directory_writes.specs.Directory.{DirectoryState, entries_after, entries_of, last_csn, last_csn_of, csn_of_next_write, most_writes, most_writes_weight, has_room, judged_code, judged_at, judged, with_write, Refuses, IsAccepted, IsPreview, IsNext, IsStanding, IsKeptBeside}
+use Rattle.directory_writes.specs.Directory.{DirectoryState, entries_after, entries_of, last_csn, last_csn_of, csn_of_next_write, most_writes, most_writes_weight, has_room, judged_code, judged_at, judged, with_write, Refuses, IsAccepted, IsPreview, IsNext, AreNumbered, IsStanding, IsKeptBeside}
+use Rattle.directory_writes.specs.Formed.{IsFormed}
 use Rattle.directory_writes.specs.Ready.{IsReadyWrite}
-use Rattle.directory_writes.specs.Standing.{StandingState, fresh_standing, standing_after}
-use Rattle.directory_writes.specs.Touches.{Numbers, uuids_of, noted_each, all_notes, IsLogged, renewed, AreNumbered}
+use Rattle.directory_writes.specs.Standing.{StandingState, fresh_standing, standing_after, LeadsTo}
+use Rattle.directory_writes.specs.Touches.{Numbers, uuids_of, noted_each, all_notes, IsLogged, renewed}
 use Rattle.directory_writes.specs.declared.preview.Preview.{Preview}
 use Rattle.directory_writes.specs.declared.ready.Ready.{Ready}
 use Rattle.directory_writes.specs.Weights.{op_weight, kept_weight}
@@ -33,7 +36,8 @@ use Rattle.session_log.proofs.Covering.{IsLogOf-fresh, IsLogOf-trimmed}
 use Rattle.directory_writes.proofs.Apart.{commit_apart}
 use Rattle.directory_writes.proofs.Judged.{accepted-push}
 use Rattle.directory_writes.proofs.Pushed.{logged-push, numbered-push}
-use Rattle.directory_writes.proofs.Csns.{rises-none, rises-push, next_rises}
+use Rattle.directory_writes.proofs.Csns.{last_csn_pushed, rises-none, rises-push, next_rises}
+use Rattle.directory_writes.proofs.Stamped.{stamped}
 
 state_from-push : (history : ℕ) (entries : List Entry) (before : ℕ) (writes : List Write) (write : Write)
     → state_from history entries before (writes ++ write ∷ [])
@@ -57,16 +61,16 @@ entries_after-push history writes write =
 
 -- the last CSN is that of the last write
 pub last_csn-push : (first : CsnValue) (writes : List Write) (write : Write) → last_csn first (writes ++ write ∷ []) ≡ write.csn
-last_csn-push first [] write = refl
-last_csn-push first (next ∷ writes) write = last_csn-push next.csn writes write
+last_csn-push first writes write = last_csn_pushed first writes write
 
+-- one write more weighs more by its own weight
 pub kept_weight-push : (writes : List Write) (write : Write) → kept_weight (writes ++ write ∷ []) ≡ kept_weight writes + op_weight write.op
 kept_weight-push writes write = omega (arith, sum_by-append (λ (w : Write). op_weight w.op) writes (write ∷ []))
 
 -- ---- a directory without writes
 
-no_numbers : (history : ℕ) (entries : List Entry) (numbers : Numbers) → entries ≡ [] → AreNumbered history [] entries numbers
-no_numbers history entries numbers empty u e found = absurd (never (ap (λ es. entry_at es u) (sym empty) ∙ found)) where
+no_numbers : (first : CsnValue) (history : ℕ) (entries : List Entry) (numbers : Numbers) → entries ≡ [] → AreNumbered first history [] entries numbers
+no_numbers first history entries numbers empty u e found = absurd (never (ap (λ es. entry_at es u) (sym empty) ∙ found)) where
   never : None ≡ Some e → ⊥
   never q = cc
 
@@ -79,10 +83,11 @@ kept_none suffix sid history writes s log limit none first small new =
     subst (λ all. IsKeptBeside (record { suffix = suffix; sid = sid; history = history; writes = all; log = log }) s) (sym none)
     (subst (IsKeptBeside (record { suffix = suffix; sid = sid; history = history; writes = []; log = log })) (sym first)
     (record {
-      standing = record { counted = refl; weighed = refl; stamped = refl; made = refl; touched = no_numbers history [] [] refl };
+      standing = record { counted = refl; weighed = refl; stamped = refl; made = refl; touched = no_numbers (start sid) history [] [] refl };
       numbered = small;
       accepted = tt;
       rises = rises-none sid;
+      formed = All-nil IsFormed;
       logged = subst (IsLogged history []) (sym new) (IsLogOf-fresh limit);
     }))
 
@@ -186,14 +191,14 @@ next_is d s op preview was plan =
 
 -- and this is kept after it
 pub standing-push : (d : DirectoryState) (s : StandingState) (op : Op) (preview : Preview) → IsStanding d s → IsPreview d op preview
-    → IsStanding (with_write d (record { csn = preview.csn; op = op })) (standing_after s preview)
+    → IsStanding (with_write d (record { csn = preview.csn; op = op })) (standing_after s op preview)
 standing-push d s op preview was plan = record {
   counted = count;
   weighed = plan.weighed ∙ sym (kept_weight-push d.writes w);
   stamped = plan.drawn ∙ sym (last_csn-push (start d.sid) d.writes w);
   made = leads;
-  touched = numbered-push d.history d.writes w s.entries (with_changes s.entries preview.touched) s.numbers (renewed (s.count + 1) s.numbers preview.touched)
-      was.made leads (λ i. renewed (was.counted i + 1) s.numbers (touches i)) was.touched;
+  touched = numbered-push (start d.sid) d.history d.writes w s.entries (with_changes s.entries preview.touched) s.numbers (renewed (is_commit op) (s.count + 1) s.numbers preview.touched)
+      was.made leads (λ i. renewed (is_commit op) (was.counted i + 1) s.numbers (touches i)) leaves was.touched;
 }
   where
     w : Write
@@ -205,12 +210,22 @@ standing-push d s op preview was plan = record {
     leads : with_changes s.entries preview.touched ≡ entries_after d.history (d.writes ++ w ∷ [])
     leads = ap (λ es. with_changes es preview.touched) was.made ∙ plan.leads
 
+    made_by : with_changes s.entries preview.touched ≡ effect s.entries op (identity d.history (length d.writes + 1)) preview.csn
+    made_by =
+        leads ∙ entries_after-push d.history d.writes w
+        ∙ ap (λ es. effect es op (identity d.history (length d.writes + 1)) preview.csn) (sym was.made)
+
+    -- what a write other than a commit leaves is as before, or has its CSN
+    leaves : (u : ℕ) (e : Entry) → is_commit op ≡ false → entry_at (with_changes s.entries preview.touched) u ≡ Some e → (entry_at s.entries u ≡ Some e) ⊎ (e.csn ≡ preview.csn)
+    leaves u e other found =
+        stamped op s.entries (identity d.history (length d.writes + 1)) preview.csn (ap ascends was.made ∙ ascends_now d) other u e (ap (λ es. entry_at es u) (sym made_by) ∙ found)
+
     touches : preview.touched ≡ touched s.entries (with_changes s.entries preview.touched)
     touches = plan.fit.exact ∙ (λ i. touched (sym was.made i) (with_changes (sym was.made i) preview.touched))
 
 -- a write that was previewed is ready with that
 pub ready_is : (d : DirectoryState) (s : StandingState) (op : Op) (preview : Preview) (ready : Ready) → IsStanding d s → IsPreview d op preview
-    → ready.preview ≡ preview → ready.after ≡ standing_after s preview → IsReadyWrite d op ready
+    → ready.preview ≡ preview → ready.after ≡ standing_after s op preview → IsReadyWrite d op ready
 ready_is d s op preview ready was plan same after = record {
   plan = subst (IsPreview d op) (sym same) plan;
   after = subst (λ (x : Preview). IsStanding (with_write d (record { csn = x.csn; op = op })) ready.after) (sym same)
@@ -232,23 +247,32 @@ put_is d op preview log writes plan last notes =
     let noted = notes ∙ ap (λ ts. noted_each (length d.writes + 1) (uuids_of ts) d.log) (planned_touches d op preview plan) in
     λ i. record d { writes = last i; log = noted i }
 
-kept_write : (d : DirectoryState) (op : Op) (ready : Ready) (s : StandingState) → IsKeptBeside d s → IsReadyWrite d op ready
+kept_write : (d : DirectoryState) (op : Op) (ready : Ready) (s : StandingState) → IsKeptBeside d s → IsReadyWrite d op ready → IsFormed (record { csn = ready.preview.csn; op = op })
     → IsKeptBeside (with_write d (record { csn = ready.preview.csn; op = op })) ready.after
-kept_write d op ready s was is = record {
+kept_write d op ready s was is formed = record {
   standing = is.after;
   numbered = was.numbered;
   accepted = accepted-push d.suffix d.history d.writes (record { csn = ready.preview.csn; op = op }) is.plan.accepted was.accepted;
   rises = rises-push d.sid d.writes (record { csn = ready.preview.csn; op = op }) is.plan.later was.rises;
+  formed = All-push IsFormed d.writes (record { csn = ready.preview.csn; op = op }) was.formed formed;
   logged = logged-push d.history d.writes (record { csn = ready.preview.csn; op = op }) d.log was.logged;
 }
 
+-- the changes of a write that is ready lead to the entries that are kept after it
+pub leads_ready : (d : DirectoryState) (op : Op) (ready : Ready) (s : StandingState) → IsKeptBeside d s → IsReadyWrite d op ready → LeadsTo s.entries ready.preview.touched ready.after.entries
+leads_ready d op ready s was is = record {
+  fit = subst (λ es. CanBeMade es ready.preview.touched) (sym was.standing.made) is.plan.fit;
+  leads = ap (λ es. with_changes es ready.preview.touched) was.standing.made ∙ is.plan.leads ∙ sym is.after.made;
+}
+
 -- a directory keeps its invariant after a write that is ready
-pub kept_ready : (d : DirectoryState) (op : Op) (ready : Ready) (s after : StandingState) (log : Log) (writes : List Write) → IsKeptBeside d s → IsReadyWrite d op ready → after ≡ ready.after
+pub kept_ready : (d : DirectoryState) (op : Op) (ready : Ready) (s after : StandingState) (log : Log) (writes : List Write) → IsKeptBeside d s → IsReadyWrite d op ready
+    → IsFormed (record { csn = ready.preview.csn; op = op }) → after ≡ ready.after
     → writes ≡ d.writes ++ (record { csn = ready.preview.csn; op = op }) ∷ [] → log ≡ noted_each (length d.writes + 1) (uuids_of ready.preview.touched) d.log
     → IsKeptBeside (record d { writes = writes; log = log }) after
-kept_ready d op ready s after log writes was is stands last notes =
+kept_ready d op ready s after log writes was is formed stands last notes =
     subst (IsKeptBeside (record d { writes = writes; log = log })) (sym stands)
-    (subst (λ x. IsKeptBeside x ready.after) (sym (put_is d op ready.preview log writes is.plan last notes)) (kept_write d op ready s was is))
+    (subst (λ x. IsKeptBeside x ready.after) (sym (put_is d op ready.preview log writes is.plan last notes)) (kept_write d op ready s was is formed))
 
 -- ---- what other calls leave
 
@@ -270,5 +294,6 @@ kept_trimmed d s log limit was left = record {
   numbered = was.numbered;
   accepted = was.accepted;
   rises = was.rises;
+  formed = was.formed;
   logged = subst (IsLogged d.history d.writes) (sym left) (IsLogOf-trimmed (all_notes (state_of d.history d.writes) (length d.writes)) d.log limit was.logged);
 }

@@ -1,5 +1,5 @@
 -- A directory by its accepted writes, and what a write does to it (RFC 4511, sections 4.6 to 4.9).
-use Rattle.std.specs.Prelude.{◌≡◌, ⊤, ℕ, ◌+◌, ◌<◌, ◌≤◌, Bool, true, IsTrue, ◌&&◌, nat_lt, nat_le, List, [], ◌∷◌, ◌++◌, length, map, Option, Some, None, Result, Ok, Err, if◌then◌else◌}
+use Rattle.std.specs.Prelude.{◌≡◌, ⊤, ℕ, ◌+◌, ◌<◌, ◌≤◌, Bool, true, IsTrue, ◌&&◌, nat_lt, nat_le, List, [], ◌∷◌, ◌++◌, length, map, take, Option, Some, None, Result, Ok, Err, if◌then◌else◌}
 use Rattle.std.specs.List.Sorted.{IsStrictlySortedBy}
 use Rattle.ldap_constants.specs.declared.result_codes.TheConstants.{SUCCESS, ADMIN_LIMIT_EXCEEDED}
 use Rattle.csn_cookie.specs.Csn.{CsnValue, start, csn_cmp, is_before}
@@ -10,9 +10,9 @@ use Rattle.dn_names.specs.Names.{TypeAndValue}
 use Rattle.entry_tree.specs.Codes.{code_of}
 use Rattle.entry_tree.specs.Effects.{effect}
 use Rattle.entry_tree.specs.Fitting.{fits}
-use Rattle.entry_tree.specs.History.{identity, state_from}
+use Rattle.entry_tree.specs.History.{identity, state_from, state_of}
 use Rattle.entry_tree.specs.Sound.{is_commit, is_sound_op}
-use Rattle.entry_tree.specs.State.{same_named}
+use Rattle.entry_tree.specs.State.{entry_at, same_named}
 use Rattle.entry_tree.specs.declared.entry.Entry.{Entry}
 use Rattle.entry_tree.specs.declared.fault.OpFault.{OpFault}
 use Rattle.entry_tree.specs.declared.fault.OpFault.TheVariants.{Code, NoMemory}
@@ -21,8 +21,9 @@ use Rattle.entry_tree.specs.declared.op.Write.{Write}
 use Rattle.entry_tree.specs.Touched.{with_changes, CanBeMade}
 use Rattle.session_log.specs.Log.{Log, fresh, trimmed}
 use Rattle.directory_writes.specs.declared.preview.Preview.{Preview}
+use Rattle.directory_writes.specs.Formed.{AreFormed}
 use Rattle.directory_writes.specs.Standing.{StandingState}
-use Rattle.directory_writes.specs.Touches.{logged, IsLogged, AreNumbered}
+use Rattle.directory_writes.specs.Touches.{Numbers, last_touch, logged, number_at, IsLogged}
 use Rattle.directory_writes.specs.Weights.{op_weight, kept_weight}
 
 -- the suffix, the number that its CSNs carry, the number of its history, the accepted writes in
@@ -70,6 +71,18 @@ last_csn first (write ∷ writes) = last_csn write.csn writes
 
 abbrev pub last_csn_of : DirectoryState → CsnValue
 last_csn_of d = last_csn (start d.sid) d.writes
+
+-- each entry has the number of its last touch: one that is kept, or else that of the write that has
+-- the entry's CSN
+abbrev pub IsNumbered : CsnValue → List Write → CsnValue → ℕ → Option ℕ → Type 0
+IsNumbered first writes csn touch None = csn ≡ last_csn first (take touch writes)
+IsNumbered first writes csn touch (Some number) = number ≡ touch
+
+abbrev pub AreNumbered : CsnValue → ℕ → List Write → List Entry → Numbers → Type 0
+AreNumbered first history writes entries numbers =
+    (uuid : ℕ) (entry : Entry) → entry_at entries uuid ≡ Some entry
+    → IsNumbered first writes entry.csn
+    (last_touch (state_of history writes) (length writes) uuid) (number_at numbers uuid)
 
 -- the CSN of the next write where the clock shows `now`, if one is left
 abbrev pub csn_of_next_write : DirectoryState → ℕ → Option CsnValue
@@ -214,7 +227,7 @@ pub record IsStanding (d : DirectoryState) (s : StandingState) : Type 0 where
   pub weighed : s.weight ≡ kept_weight d.writes
   pub stamped : s.last ≡ last_csn_of d
   pub made : s.entries ≡ entries_of d
-  pub touched : AreNumbered d.history d.writes s.entries s.numbers
+  pub touched : AreNumbered (start d.sid) d.history d.writes s.entries s.numbers
 
 -- what holds of a directory's writes and its log, and of what is kept beside them
 pub record IsKeptBeside (d : DirectoryState) (s : StandingState) : Type 0 where
@@ -222,4 +235,5 @@ pub record IsKeptBeside (d : DirectoryState) (s : StandingState) : Type 0 where
   pub numbered : d.sid < 4096
   pub accepted : AreAccepted d.suffix d.history d.writes
   pub rises : CsnsRise d.sid d.writes
+  pub formed : AreFormed d.writes
   pub logged : IsLogged d.history d.writes d.log

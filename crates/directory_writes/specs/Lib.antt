@@ -2,6 +2,7 @@
 -- where a search begins.
 pub mod Commits
 pub mod Directory
+pub mod Formed
 pub mod Ready
 pub mod Standing
 pub mod Starting

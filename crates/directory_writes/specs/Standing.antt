@@ -1,13 +1,17 @@
 -- What is kept beside the writes of a directory, and by which the next one is judged.
-use Rattle.std.specs.Prelude.{ℕ, ◌+◌, List, []}
+use Rattle.std.specs.Prelude.{◌≡◌, ℕ, ◌+◌, List, [], Option, Some, None}
 use Rattle.csn_cookie.specs.Csn.{CsnValue, start}
 use Rattle.entry_tree.specs.declared.entry.Entry.{Entry}
-use Rattle.entry_tree.specs.Touched.{with_changes}
+use Rattle.entry_tree.specs.declared.op.Op.{Op}
+use Rattle.entry_tree.specs.Sound.{is_commit}
+use Rattle.entry_tree.specs.Touched.{with_changes, CanBeMade}
+use Rattle.entry_tree.specs.declared.touched.EntryChange.{EntryChange}
+use Rattle.directory_writes.specs.declared.previous.Previous.{Previous}
 use Rattle.directory_writes.specs.declared.preview.Preview.{Preview}
 use Rattle.directory_writes.specs.Touches.{Numbers, renewed}
 
 -- how many writes there are, what they weigh, the last CSN, the entries after them, and the number
--- of each entry's last touch
+-- of the last touch of each entry that a commit touched last
 pub record StandingState : Type 0 where
   pub count : ℕ
   pub weight : ℕ
@@ -21,12 +25,23 @@ fresh_standing sid =
     record { count = 0; weight = 0; last = start sid; entries = []; numbers = [] }
 
 -- after one more write, which was previewed so
-abbrev pub standing_after : StandingState → Preview → StandingState
-standing_after s preview =
+abbrev pub standing_after : StandingState → Op → Preview → StandingState
+standing_after s op preview =
     record {
       count = s.count + 1;
       weight = preview.weight;
       last = preview.csn_maker;
       entries = with_changes s.entries preview.touched;
-      numbers = renewed (s.count + 1) s.numbers preview.touched;
+      numbers = renewed (is_commit op) (s.count + 1) s.numbers preview.touched;
     }
+
+-- the changes can be made to the entries, and lead to the others
+pub record LeadsTo
+    (before : List Entry) (changes : List EntryChange) (after : List Entry) : Type 0 where
+  pub fit : CanBeMade before changes
+  pub leads : with_changes before changes ≡ after
+
+-- what is left of the entries before the last write, if anything, leads to those after it
+abbrev pub IsPrevious : Option Previous → List Entry → Type 0
+IsPrevious None entries = Unit {0}
+IsPrevious (Some previous) entries = LeadsTo previous.tree previous.changes entries

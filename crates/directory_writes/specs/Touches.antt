@@ -1,9 +1,9 @@
 -- Which writes touch an entry: those after which what its identity has differs
 -- from what it had before.
-use Rattle.std.specs.Prelude.{◌≡◌, ℕ, zero, suc, ◌+◌, cond, List, [], ◌++◌, length, map, Option, Some, None}
+use Rattle.std.specs.Prelude.{ℕ, Bool, ◌&&◌, not, ◌==◌, if◌then◌else◌, zero, suc, ◌+◌, cond, List, [], ◌++◌, length, map, filter, Option, is_some}
 use Rattle.std.specs.List.{fold}
 use Rattle.std.specs.Ordering.{nat_cmp}
-use Rattle.std.specs.Map.{lookup, remove_entry}
+use Rattle.std.specs.Map.{lookup}
 use Rattle.std.specs.BTreeMap.{insert_entry, is_at}
 use Rattle.entry_tree.specs.declared.entry.Entry.{Entry}
 use Rattle.entry_tree.specs.declared.op.Write.{Write}
@@ -54,28 +54,24 @@ IsLogged history writes log = IsLogOf (all_notes (state_of history writes) (leng
 
 -- ---- the numbers that are kept beside the entries
 
--- identities with the number of the write that touched each last
+-- identities with the number of the commit that touched each last
 abbrev pub Numbers : Type 0
 Numbers = List (ℕ × ℕ)
 
 abbrev pub number_at : Numbers → ℕ → Option ℕ
 number_at numbers uuid = lookup (is_at (nat_cmp uuid)) numbers
 
--- the number of a write that changed what an identity has: where it has an entry now, that number
--- is kept for it
-abbrev pub renewed_at : ℕ → Numbers → ℕ → Option Entry → Numbers
-renewed_at number numbers uuid None = remove_entry (is_at (nat_cmp uuid)) numbers
-renewed_at number numbers uuid (Some entry) = insert_entry nat_cmp numbers uuid number
+-- whether the number of a write is kept for what it left: a commit leaves an entry with the CSN
+-- that it came with, and any other write with its own, which is only that write's
+abbrev pub is_number_kept : Bool → Option Entry → Bool
+is_number_kept commits after = commits && is_some after
 
-abbrev pub renewed_by : ℕ → Numbers → EntryChange → Numbers
-renewed_by number numbers entry_change =
-    renewed_at number numbers entry_change.uuid entry_change.after
+abbrev pub renewed_by : Bool → ℕ → Numbers → EntryChange → Numbers
+renewed_by commits number numbers entry_change =
+    if is_number_kept commits entry_change.after
+    then insert_entry nat_cmp numbers entry_change.uuid number
+    else filter (λ kept. not (kept.0 == entry_change.uuid)) numbers
 
-abbrev pub renewed : ℕ → Numbers → List EntryChange → Numbers
-renewed number numbers touches = fold (renewed_by number) numbers touches
-
--- each entry has its number
-abbrev pub AreNumbered : ℕ → List Write → List Entry → Numbers → Type 0
-AreNumbered history writes entries numbers =
-    (uuid : ℕ) (entry : Entry) → entry_at entries uuid ≡ Some entry
-    → number_at numbers uuid ≡ Some (last_touch (state_of history writes) (length writes) uuid)
+-- the numbers after a write of this number, which is a commit or not
+abbrev pub renewed : Bool → ℕ → Numbers → List EntryChange → Numbers
+renewed commits number numbers touches = fold (renewed_by commits number) numbers touches

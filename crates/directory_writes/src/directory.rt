@@ -8,11 +8,13 @@ ghost use Rattle.csn_cookie.specs.Csn as csn_specs;
 ghost use Rattle.entry_tree.specs.History.{identity as identity_of, state_of, touched_over};
 ghost use Rattle.entry_tree.specs.Fitting.{fits, is_within_entry_limit};
 ghost use Rattle.entry_tree.specs.State.{entry_at};
+ghost use Rattle.entry_tree.specs.declared.entry.Entry.{Entry};
 ghost use Rattle.entry_tree.specs.Sound.{is_sound_op, is_sound_put};
 ghost use Rattle.entry_tree.specs.Touched.{touched};
 ghost use Rattle.directory_writes.specs.Commits.{commit_refusal, Rejects};
 ghost use Rattle.directory_writes.specs.Starting as starting;
 ghost use Rattle.directory_writes.specs.Directory as directory;
+ghost use Rattle.directory_writes.specs.Formed.{AreFormed};
 ghost use Rattle.directory_writes.specs.Ready.{IsReadyWrite};
 ghost use Rattle.directory_writes.specs.Starting.{start_of, CanBegin};
 ghost use Rattle.directory_writes.specs.Touches.{last_touch};
@@ -21,6 +23,7 @@ ghost use Rattle.directory_writes.specs.Weights.{kept_weight};
 
 use crate::NoMemory;
 use crate::commit::DirectoryCommitFault;
+use crate::formed::{is_in_range, is_well_formed};
 use crate::judging::Drawn;
 use crate::preview::Preview;
 use crate::ready::Ready;
@@ -36,6 +39,7 @@ use ldap_constants::{ADMIN_LIMIT_EXCEEDED, SUCCESS};
 use session_log::SessionLog;
 use std::alloc::{AllocError, Global};
 use std::marker::Model;
+use std::mem;
 
 /// How many notes the session log of a new directory keeps.
 const FIRST_LOG_LIMIT: u64 = 1_000;
@@ -128,12 +132,14 @@ impl Directory {
         &self.standing
     }
 
-    /// The accepted writes, the first of which has the number 1.
+    /// The accepted writes, the first of which has the number 1. The CSN of each is in range, and what
+    /// a client asked for is well formed.
     pub fn accepted(&self) -> &[Write]
         ensures value { result.now ≡ self.now.state.writes }
         ensures accepted { directory.AreAccepted
             self.now.state.suffix self.now.state.history self.now.state.writes }
         ensures rises { directory.CsnsRise self.now.state.sid self.now.state.writes }
+        ensures formed { AreFormed self.now.state.writes }
     {
         self.accepted.as_slice()
     }
@@ -181,8 +187,21 @@ impl Directory {
             ≡ last_touch (state_of self.now.state.history self.now.state.writes)
             (length self.now.state.writes) uuid }
     {
-        match self.standing.last_touch_of(uuid) {
+        match self.standing.kept_touch_of(uuid) {
             Some(number) => number,
+            None => self.written_upto(uuid),
+        }
+    }
+
+    /// How many accepted writes have a CSN that is not greater than that of the entry of this
+    /// identity.
+    fn written_upto(&self, uuid: u128) -> u64
+        ensures { (entry : Entry)
+            → entry_at (directory.entries_of self.now.state) uuid ≡ Some entry
+            → result ≡ csn_specs.upto (directory.csns self.now.state.writes) entry.csn }
+    {
+        match self.tree().get(uuid) {
+            Some(entry) => self.upto(entry.csn),
             None => 0,
         }
     }
@@ -305,14 +324,15 @@ impl Directory {
         Ok(())
     }
 
-    /// A write that was previewed, with what is kept beside the writes after it. The directory is
-    /// left as it is. It is `NoMemory` where memory runs out.
-    pub fn ready(&self, op: &Op, preview: Preview) -> Result<Ready, NoMemory>
-        requires { directory.IsPreview self.now.state op.now preview }
-        ensures ready { IfOk result (IsReadyWrite self.now.state op.now) }
+    /// A write that was previewed, with what is kept beside the writes after it. It is `NoMemory`
+    /// where memory runs out.
+    pub fn ready(&mut self, op: &Op, preview: Preview) -> Result<Ready, NoMemory>
+        requires { directory.IsPreview self.old.state op.now preview }
+        ensures state { self.new.state ≡ self.old.state }
+        ensures ready { IfOk result (IsReadyWrite self.new.state op.now) }
         ensures preview { IfOk result (λ ready. ready.preview ≡ preview) }
     {
-        self.standing.ready(op, preview)
+        self.standing.ready_in_turn(op, preview)
     }
 
     /// Makes room for as many writes and notes beyond those that are kept. It is `NoMemory` where
@@ -338,13 +358,16 @@ impl Directory {
         ensures spare { self.old.spare ≤ self.new.spare + length ready.preview.touched }
     {
         let Ready { preview, after } = ready;
+        is_in_range(preview.csn);
+        is_well_formed(&op);
         let number = self.accepted.len() as u64 + 1;
         note_each(&mut self.log, number, preview.touched.list());
         self.accepted.push_reserved(Write {
             csn: preview.csn,
             op,
         });
-        self.standing = after;
+        let before = mem::replace(&mut self.standing, after);
+        self.standing.keep_previous(before, preview.touched);
     }
 
     /// Whether a commit that puts these entries and drops these identities may be kept where the

@@ -5,8 +5,10 @@
 
 mod commit;
 mod directory;
+mod formed;
 mod judging;
 mod preview;
+mod previous;
 mod ready;
 mod standing;
 mod start;

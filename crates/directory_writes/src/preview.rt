@@ -10,6 +10,7 @@ use entry_tree::Touched;
 pub struct Preview {
     pub csn: Csn,
     pub csn_maker: CsnMaker,
+    /// In bytes.
     pub weight: u64,
     pub touched: Touched,
 }

@@ -2,23 +2,26 @@
 
 ghost use Rattle.std.specs.Prelude.{◌≡◌, ◌<◌, IfOk};
 ghost use Rattle.entry_tree.specs.Sound.{is_commit};
+ghost use Rattle.entry_tree.specs.Touched.{with_changes};
 ghost use Rattle.directory_writes.specs.Directory.{IsNext};
-ghost use Rattle.directory_writes.specs.Standing.{fresh_standing, standing_after};
+ghost use Rattle.directory_writes.specs.Standing.{fresh_standing, standing_after, LeadsTo};
 ghost use Rattle.directory_writes.specs.Touches.{number_at};
 
 use crate::NoMemory;
 use crate::preview::Preview;
+use crate::previous::{Previous, previous_of};
 use crate::ready::Ready;
 use crate::touches::{Numbers, renewed};
 use csn_cookie::{Csn, CsnMaker};
-use entry_tree::{Op, Tree};
+use entry_tree::{Op, Touched, Tree};
 use shared_map::SharedMap;
 use std::alloc::Global;
 use std::marker::Model;
+use std::mem;
 
 /// What a directory keeps beside its writes, and by which the next one is judged: how many there
-/// are and what they weigh, the last CSN, the entries, and for each entry the number of the write
-/// that touched it last. That after a write shares with that before it what did not change.
+/// are and what they weigh, the last CSN, the entries, and for each entry that a commit touched
+/// last the number of that commit.
 #[derive(Drop)]
 pub struct Standing {
     pub(crate) count: u64,
@@ -29,11 +32,13 @@ pub struct Standing {
     /// are no entries.
     pub(crate) has_unique_names: bool,
     numbers: Numbers,
+    /// What is left of the entries before the last write, by which the next one is made.
+    previous: Option<Previous>,
 }
 
 impl Model for Standing {
     ghost use Rattle.directory_writes.specs.Directory.{StandsWithinLimits};
-    ghost use Rattle.directory_writes.specs.Standing.{StandingState};
+    ghost use Rattle.directory_writes.specs.Standing.{IsPrevious, StandingState};
 
     ghost Value = { StandingState };
 
@@ -45,7 +50,8 @@ impl Model for Standing {
       numbers = s.numbers;
     } };
 
-    ghost invariant = { λ s. StandsWithinLimits s.count s.weight s.tree s.has_unique_names };
+    ghost invariant = { λ s. StandsWithinLimits s.count s.weight s.tree s.has_unique_names
+        × IsPrevious s.previous s.tree };
 }
 
 impl Standing {
@@ -64,6 +70,7 @@ impl Standing {
             tree,
             has_unique_names: true,
             numbers,
+            previous: None,
         }
     }
 
@@ -81,8 +88,9 @@ impl Standing {
         &self.tree
     }
 
-    /// The number of the write that touched the entry of this identity last.
-    pub(crate) fn last_touch_of(&self, uuid: u128) -> Option<u64>
+    /// The number of the write that touched the entry of this identity last, where it is kept: of
+    /// another entry the CSN is that of the write.
+    pub(crate) fn kept_touch_of(&self, uuid: u128) -> Option<u64>
         ensures { result ≡ number_at self.now.numbers uuid }
     {
         self.numbers.get(&uuid).copied()
@@ -93,30 +101,68 @@ impl Standing {
     pub fn ready(&self, op: &Op, preview: Preview) -> Result<Ready, NoMemory>
         requires { IsNext self.now op.now preview }
         ensures preview { IfOk result (λ ready. ready.preview ≡ preview) }
-        ensures after { IfOk result (λ ready. ready.after ≡ standing_after self.now preview) }
+        ensures after { IfOk result (λ ready.
+            ready.after ≡ standing_after self.now op.now preview) }
     {
-        let after = self.after(op, &preview)?;
+        let tree = self.tree.with_changes(&preview.touched)?;
+        let after = self.after(op, &preview, tree)?;
         Ok(Ready { preview, after })
     }
 
-    /// What is kept after one more write, which was previewed so.
-    fn after(&self, op: &Op, preview: &Preview) -> Result<Standing, NoMemory>
-        requires { IsNext self.now op.now preview.now }
-        ensures { IfOk result (λ after. after ≡ standing_after self.now preview.now) }
+    /// The same in the place of the entries before the last write, where they are kept. They are
+    /// lost then, and all else is as before.
+    pub(crate) fn ready_in_turn(&mut self, op: &Op, preview: Preview) -> Result<Ready, NoMemory>
+        requires { IsNext self.old op.now preview }
+        ensures same { self.new ≡ self.old }
+        ensures preview { IfOk result (λ ready. ready.preview ≡ preview) }
+        ensures after { IfOk result (λ ready.
+            ready.after ≡ standing_after self.old op.now preview) }
+    {
+        let spare = self.spare()?;
+        let tree = spare.changed_by(&preview.touched)?;
+        let after = self.after(op, &preview, tree)?;
+        Ok(Ready { preview, after })
+    }
+
+    /// The entries once more: those before the last write, which are brought up to date, or a copy.
+    fn spare(&mut self) -> Result<Tree, NoMemory>
+        ensures same { self.new ≡ self.old }
+        ensures entries { IfOk result (λ tree. tree ≡ self.old.entries) }
+    {
+        let previous = mem::replace(&mut self.previous, None);
+        match previous {
+            Some(previous) => previous.caught_up(),
+            None => self.tree.copy(),
+        }
+    }
+
+    /// What is kept after one more write, which was previewed so and leaves these entries.
+    fn after(&self, op: &Op, preview: &Preview, tree: Tree) -> Result<Standing, NoMemory>
+        requires next { IsNext self.now op.now preview.now }
+        requires entries { tree ≡ with_changes self.now.entries preview.now.touched }
+        ensures { IfOk result (λ after. after ≡ standing_after self.now op.now preview.now) }
     {
         let number = self.count + 1;
-        let has_unique_names = is_commit(op);
+        let commits = is_commit(op);
         let csn_maker = preview.csn_maker.copy();
-        let numbers = renewed(&self.numbers, number, preview.touched.list())?;
-        let tree = self.tree.with_changes(&preview.touched)?;
+        let numbers = renewed(&self.numbers, commits, number, preview.touched.list())?;
         Ok(Standing {
             count: number,
             weight: preview.weight,
             csn_maker,
             tree,
-            has_unique_names,
+            has_unique_names: commits,
             numbers,
+            previous: None,
         })
+    }
+
+    /// Keeps the entries before the last write, which made these changes, unless they are many.
+    pub(crate) fn keep_previous(&mut self, was: Standing, changes: Touched)
+        requires { LeadsTo was.entries changes self.old.entries }
+        ensures { self.new ≡ self.old }
+    {
+        self.previous = previous_of(was.tree, changes);
     }
 }
 

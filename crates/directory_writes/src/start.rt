@@ -9,7 +9,9 @@ ghost use Rattle.directory_writes.specs.Starting.{start_of};
 #[derive(Clone, Copy, Debug, PartialEq, Eq)]
 pub enum Start {
     InitialContent,
+    /// After n writes, where the session log covers n.
     DeletePhase(u64),
+    /// After n writes, where it does not.
     PresentPhase(u64),
 }
 

@@ -1,4 +1,4 @@
--- Names that match are reported apart by no name: equality of names goes through and back, and nothing is below one and not below the other.
+-- No name distinguishes names that match: equality of names goes through and back, and nothing is below one and not below the other.
 use Rattle.std.proofs.Common.{◌≡◌, Bool, true, false, ◌&&◌, nat_le, List, [], ◌∷◌, length, refl, ap, sym, ◌∙◌}
 use Rattle.dn_names.specs.Names.{TypeAndValue, same_name, suffix_of, is_at_or_below, is_child_of}
 use Rattle.dn_names.proofs.EqualNames.{AreEqual-same_name, length-AreEqual, name_sym, name_trans}

@@ -6,6 +6,7 @@ use Rattle.dn_names.specs.declared.name_chars.NameChar.{NameChar}
 use Rattle.dn_names.specs.declared.name_chars.NameChar.TheVariants.{Plain, Escaped, Hexadecimal, Stray}
 use Rattle.dn_names.specs.Reading.{chars_after, chars_of, char_of, char_width, chars_width, escape, hex_pair, is_escapable}
 
+-- the characters from a place on are those of the bytes from there
 pub chars_after-drop : (n : ℕ) (text : List ℕ) → chars_after n text ≡ chars_after 0 (drop n text)
 chars_after-drop zero [] = refl
 chars_after-drop zero (b ∷ bs) = refl
@@ -45,6 +46,7 @@ char_of-width b rest =
     elim (nat_eq b 92) as (λ e. char_width (if e then escape rest else Plain b) ≤ length rest + 1)
     [ true ↦ escape-width rest | false ↦ omega arith ]
 
+-- each character has at least one byte
 pub name_char-width : (name_char : NameChar) → 0 < char_width name_char
 name_char-width (Plain b) = omega arith
 name_char-width (Escaped b) = omega arith

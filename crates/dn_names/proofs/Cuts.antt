@@ -18,16 +18,19 @@ any_within p (x ∷ xs) =
       | inr other ↦ rw other (any_within p xs ∙ step)
     ]
 
+-- a first element that passes the test is taken away with those after it
 pub leading-yes : {X : Type 0} (p : X → Bool) (xs : List X) (x : X) (rest : List X) → xs ≡ x ∷ rest → p x ≡ true → drop (prefix_len p xs) xs ≡ drop (prefix_len p rest) rest
 leading-yes p xs x rest parts space =
     let next : 1 + prefix_len p rest ≡ suc (prefix_len p rest) = omega arith in
     rw (parts, space, next) refl
 
+-- where the first one fails it, nothing is taken away
 pub leading-no : {X : Type 0} (p : X → Bool) (xs : List X) (x : X) (rest : List X) → xs ≡ x ∷ rest → p x ≡ false → drop (prefix_len p xs) xs ≡ xs
 leading-no p xs x rest parts other = rw (parts, other) refl
 
 pub ruleset leading = (leading-yes, leading-no)
 
+-- a last element that passes the test is taken away
 pub trailing-yes : {X : Type 0} (p : X → Bool) (xs : List X) (x : X) → p x ≡ true
     → take (length (xs ++ x ∷ []) - suffix_len p (xs ++ x ∷ [])) (xs ++ x ∷ []) ≡ take (length xs - suffix_len p xs) xs
 trailing-yes p xs x space =

@@ -43,6 +43,7 @@ has_through (q ∷ middle) last p has all =
       | inr rest ↦ has_through middle last p rest parts.1
     ]
 
+-- each pair that is among some is among those that have these
 pub all_through : (pairs middle last : List TypeAndValue) → list_all (has_pair middle) pairs ≡ true → list_all (has_pair last) middle ≡ true → list_all (has_pair last) pairs ≡ true
 all_through [] middle last one two = refl
 all_through (p ∷ pairs) middle last one two =
@@ -66,6 +67,7 @@ rdn_sym one other same =
     let both = and_parts (list_all (has_pair other) one) (list_all (has_pair one) other) same in
     and_from (list_all (has_pair one) other) (list_all (has_pair other) one) both.1 both.0
 
+-- an RDN that is equal to one is equal to what this is equal to
 pub rdn_trans : (one other third : List TypeAndValue) → same_rdn one other ≡ true → same_rdn other third ≡ true → same_rdn one third ≡ true
 rdn_trans one other third first second =
     let a = and_parts (list_all (has_pair other) one) (list_all (has_pair one) other) first in

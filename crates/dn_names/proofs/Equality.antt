@@ -45,6 +45,7 @@ abbrev pub AreKnown : List TypeAndValue → Type 0
 AreKnown [] = Unit {0}
 AreKnown (pair ∷ pairs) = IsKnown pair × AreKnown pairs
 
+-- pairs that have keys are of known types
 pub known_pairs : (pairs : List TypeAndValue) → list_all has_key pairs ≡ true → AreKnown pairs
 known_pairs [] keyed = tt
 known_pairs (pair ∷ pairs) keyed =
@@ -115,6 +116,7 @@ rdn-keyed rdn sound =
     let rest = and_parts (not (nat_eq (length rdn) 0)) (list_all has_key rdn && (not (has_double rdn) && nat_le (length (rdn_text rdn)) 1024)) sound in
     (and_parts (list_all has_key rdn) (not (has_double rdn) && nat_le (length (rdn_text rdn)) 1024) rest.1).0
 
+-- so are all pairs of a name
 pub known_name : (name : List (List TypeAndValue)) → AllPass is_rdn name → AllKnown name
 known_name [] sound = tt
 known_name (rdn ∷ rdns) sound =

@@ -24,7 +24,7 @@ marked-apart (a ∷ as') (b ∷ bs) rest more same =
     let prefix : as' ≡ bs = later.0 in
     ((cc), later.1)
 
--- two texts that can be reported apart, after the mark of a pair
+-- the mark of a pair, and then two texts whose ends are marked
 abbrev pub IsMark : List ℕ → Type 0
 IsMark mark = (name : List ℕ) × (key : List ℕ) × (mark ≡ 1 ∷ (marked name ++ marked key))
 
@@ -43,10 +43,11 @@ marks-fold marks [] are = are
 marks-fold marks (pair ∷ pairs) are =
     marks-fold (insert_key (slice_cmp nat_cmp) marks (pair_mark pair)) pairs (marks-insert marks (pair_mark pair) are (type_name pair.kind, pair_key pair, refl))
 
+-- each pair of a set has its mark
 pub pair_set-marks : (pairs : List TypeAndValue) → AreMarks (pair_set pairs)
 pair_set-marks pairs = marks-fold [] pairs tt
 
--- a mark and what follows, reported apart
+-- where a mark ends, and what follows it
 mark-apart : (one other rest more : List ℕ) → IsMark one → IsMark other → one ++ rest ≡ other ++ more → (one ≡ other) × (rest ≡ more)
 mark-apart one other rest more is_one is_other same =
     let left : one ++ rest ≡ 1 ∷ (marked is_one.0 ++ (marked is_one.1 ++ rest)) = rw is_one.2 (ap (λ t. 1 ∷ t) (append_assoc (marked is_one.0) (marked is_one.1) rest)) in

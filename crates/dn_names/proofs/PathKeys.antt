@@ -67,6 +67,7 @@ pub in_parts-none : (rdns : Name) → length rdns ≡ 0 → IsPathInParts rdns [
 in_parts-none [] none = record { path = record { is = refl; numbers = λ k d within. absurd (omega arith) }; parent = refl }
 in_parts-none (rdn ∷ above) none = absurd (omega arith)
 
+-- the path of the parent is no longer
 pub parent-within : (rdns : Name) → length (path_key (parent_of rdns)) ≤ length (path_key rdns)
 parent-within [] = omega arith
 parent-within (rdn ∷ above) = omega (arith, length-append (path_key above) (rdn_path rdn))
@@ -78,6 +79,7 @@ parent-begins (rdn ∷ above) = take_at (path_key above) (rdn_path rdn) (length 
 
 -- ---- parts of a name that has a path
 
+-- so have the names above it
 pub HasPath-drop : (count : ℕ) (name : Name) → HasPath name → HasPath (drop count name)
 HasPath-drop count name has = record {
   sound = record {

@@ -23,6 +23,7 @@ abbrev pub with_all : {A : Type 0} → List A → Result (List A) NameFault → 
 with_all items (Ok more) = Ok (items ++ more)
 with_all items (Err fault) = Err fault
 
+-- an item that was read stands after those before it
 pub with_all-push : {A : Type 0} (items : List A) (item : A) (read : Result (List A) NameFault) → with_all items (with_first item read) ≡ with_all (items ++ item ∷ []) read
 with_all-push items item (Ok more) = ap Ok (sym (append_assoc items (item ∷ []) more))
 with_all-push items item (Err fault) = refl
@@ -62,6 +63,7 @@ module _ (place : ℕ) (ended : Bool) (whole : Result (List TypeAndValue) NameFa
   next_pair more pair read =
       rw (so_far, pairs_of-more place ended rest more, read) (with_all-push pairs pair (pairs_of place ended (slice_split (is_plain 43) (after_first (is_plain 43) rest))))
 
+  -- a pair that is refused refuses the RDN
   pub next_fault : list_any (is_plain 43) rest ≡ true → (fault : NameFault) → pair_of place true (before_first (is_plain 43) rest) ≡ Err fault → whole ≡ Err fault
   next_fault more fault read = rw (so_far, pairs_of-more place ended rest more, read) refl
 
@@ -69,6 +71,7 @@ module _ (place : ℕ) (ended : Bool) (whole : Result (List TypeAndValue) NameFa
   pub last_pair : list_any (is_plain 43) rest ≡ false → (pair : TypeAndValue) → pair_of place ended (before_first (is_plain 43) rest) ≡ Ok pair → whole ≡ Ok (pairs ++ pair ∷ [])
   last_pair none pair read = rw (so_far, pairs_of-last place ended rest none, read) refl
 
+  -- so does the last one
   pub last_fault : list_any (is_plain 43) rest ≡ false → (fault : NameFault) → pair_of place ended (before_first (is_plain 43) rest) ≡ Err fault → whole ≡ Err fault
   last_fault none fault read = rw (so_far, pairs_of-last place ended rest none, read) refl
 
@@ -127,6 +130,7 @@ first_keyed place ended part pairs count (Ok pair) (Ok more) is_one later same =
     let rest = later more refl in
     rw (← all) (and_from (has_key pair) (list_all has_key more) (pair_of-keyed place ended part pair is_one) rest.0, ap suc rest.1)
 
+-- each pair that was read has a key, and there are as many as parts
 pub pairs_of-keyed : (place : ℕ) (ended : Bool) (parts : List (List NameChar)) (pairs : List TypeAndValue) → pairs_of place ended parts ≡ Ok pairs
     → (list_all has_key pairs ≡ true) × (length pairs ≡ length parts)
 pairs_of-keyed place ended [] pairs read = let none : [] ≡ pairs = (cc) in rw (← none) (refl, refl)

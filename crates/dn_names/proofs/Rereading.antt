@@ -315,6 +315,7 @@ pair_begins pair rest readable = at (type_name pair.kind) readable.clean
     at [] clean = refl
     at (byte ∷ bytes) clean = clean_byte byte bytes clean 32 refl
 
+-- the text of an RDN is read as that RDN
 pub rdn-back : (place : ℕ) (ended : Bool) (rdn : List TypeAndValue) → is_rdn rdn ≡ true → AreReadable rdn → rdn_of place ended (rdn_chars rdn) ≡ Ok rdn
 rdn-back place ended [] sound readable = (cc)
 rdn-back place ended (pair ∷ pairs) sound readable =

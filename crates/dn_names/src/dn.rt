@@ -11,6 +11,8 @@ use crate::fault::NameFault;
 use crate::keys::append_rdn_key;
 use crate::name::Name;
 use crate::name_chars::{NameChar, chars_of, cut, width_of, without_leading_spaces};
+use crate::pair::Pair;
+use crate::paths::append_pair_path;
 use crate::rdn::Rdn;
 use crate::writing::{append_rdns, rdns_len};
 use ldap_ber::{NoMemory, Octets};
@@ -171,6 +173,16 @@ impl Dn {
         ensures { IfOk result (λ path. path.items ≡ path_key self.now) }
     {
         Vec::from_slice(self.alloc, self.path())
+    }
+
+    /// The path key of the name of an entry directly below, whose RDN is this pair alone. It is
+    /// `NoMemory` where memory runs out, and where a number has no place in four octets.
+    pub fn path_below(&self, pair: &Pair) -> Result<Vec<u8>, NoMemory>
+        ensures { IfOk result (λ path. path.items ≡ path_key ((pair.now ∷ []) ∷ self.now)) }
+    {
+        let mut path = self.path_key()?;
+        append_pair_path(&mut path, pair)?;
+        Ok(path)
     }
 
     /// Whether the names are equal (RFC 4517, section 4.2.15).

@@ -1,9 +1,10 @@
 //! Pairs of a type and a value (RFC 4514, section 2.3).
-ghost use Rattle.std.specs.Prelude.{◌≡◌, Some, IfOk};
+ghost use Rattle.std.specs.Prelude.{◌≡◌, Some, IfOk, IfSome, is_some};
 ghost use Rattle.schema_rules.specs.Keys.{key_of};
 
 use ldap_ber::{NoMemory, Octets};
-use schema_rules::AttributeType;
+use schema_rules::{AttributeType, known_key};
+use std::alloc::Global;
 use std::marker::Model;
 
 /// A type and a value of its syntax.
@@ -28,6 +29,20 @@ impl Model for Pair {
 }
 
 impl Pair {
+    /// The pair of this type and value, or nothing where the value is not of the type's syntax. It
+    /// is `NoMemory` where memory runs out.
+    pub fn of(alloc: Global, kind: AttributeType, value: &[u8]) -> Result<Option<Pair>, NoMemory>
+        ensures value { IfOk result (λ found. IfSome found (λ pair.
+            pair ≡ record { kind = kind; value = value.now })) }
+        ensures some { IfOk result (λ found. is_some found ≡ is_some (key_of kind value.now)) }
+    {
+        let Some(key) = known_key(alloc, kind, value)? else {
+            return Ok(None);
+        };
+        let octets = Octets::from_slice(alloc, value)?;
+        Ok(Some(Pair::new(kind, octets, key)))
+    }
+
     pub(crate) fn new(kind: AttributeType, value: Octets, key: Octets) -> Pair
         requires { key_of kind value ≡ Some key }
         ensures { result ≡ record { kind = kind; value = value } }

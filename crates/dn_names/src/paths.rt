@@ -35,7 +35,7 @@ pub(crate) fn append_rdn_path(
 }
 
 /// Appends that there is one pair, and then this.
-fn append_pair_path(path: &mut Vec<u8>, pair: &Pair) -> Result<(), NoMemory>
+pub(crate) fn append_pair_path(path: &mut Vec<u8>, pair: &Pair) -> Result<(), NoMemory>
     ensures path { OnOk result
         (path.new.items ≡ path.old.items ++ spec.rdn_path (pair.now ∷ [])) }
     ensures numbers { OnOk result (spec.has_small_numbers (pair.now ∷ []) ≡ true) }

@@ -50,6 +50,7 @@ all_stay u (e ∷ es) later =
     ap (λ b. cond (not b) (e ∷ filter (λ x. not (is_identified u x)) es) (filter (λ x. not (is_identified u x)) es)) (ne_eqb e.uuid u (λ same. omega (arith, far, same)))
     ∙ ap (λ xs. e ∷ xs) (all_stay u es p.1)
 
+-- the entries without one, by their identities
 pub removed_by_identity : (es : List Entry) (u : ℕ) → ascends es ≡ true → remove_entry (is_at (nat_cmp u)) (by_identity es) ≡ by_identity (filter (λ e. not (is_identified u e)) es)
 removed_by_identity [] u asc = refl
 removed_by_identity (e ∷ es) u asc =
@@ -97,6 +98,7 @@ all_removed (u ∷ us) es asc =
 
 -- ---- with an entry
 
+-- the entries with one, by their identities
 pub put_by_identity : (e : Entry) (es : List Entry) → ascends es ≡ true → insert_entry nat_cmp (by_identity es) e.uuid e ≡ by_identity (put e es)
 put_by_identity e [] asc = refl
 put_by_identity e (x ∷ es) asc =

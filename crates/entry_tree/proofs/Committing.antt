@@ -14,12 +14,12 @@ use Rattle.entry_writes.specs.Bytes.{is_one_found}
 use Rattle.entry_writes.specs.Effects.{is_one_of, committed}
 use Rattle.entry_tree.specs.Fitting.{is_directory_content}
 use Rattle.entry_writes.specs.State.{ascends, entry_at, put, exceeds_limits, same_named, total_weight, most_entries, most_weight, IsDirectory}
-use Rattle.entry_writes.specs.Touched.{identities, joined, change_at, is_change, touched}
+use Rattle.entry_writes.specs.Touched.{identities, joined, change_at, is_change, touched, rises}
 use Rattle.entry_tree.proofs.Directory.{ascends_filter}
 use Rattle.entry_writes.proofs.Identities.{above}
 use Rattle.entry_writes.proofs.Same.{one_found-same}
 use Rattle.entry_tree.proofs.Putting.{ascends_put, entry_at_put}
-use Rattle.entry_tree.proofs.Rising.{below_all, rises, among, rises-joined, among-joined, same_passing}
+use Rattle.entry_tree.proofs.Rising.{below_all, among, rises-joined, among-joined, same_passing}
 use Rattle.schema_rules.proofs.Lists.{option_or-assoc}
 
 -- each of these entries put in its place
@@ -28,6 +28,7 @@ put_all es puts = fold (λ held entry. put entry held) es puts
 
 -- ---- order
 
+-- entries that are put leave the others in order
 pub ascends_puts : (puts es : List Entry) → ascends es ≡ true → ascends (put_all es puts) ≡ true
 ascends_puts [] es asc = asc
 ascends_puts (e ∷ puts) es asc = ascends_puts puts (put e es) (ascends_put e es asc)
@@ -70,6 +71,7 @@ or_found : (b : Bool) (e : Entry) (found : Option Entry) → option_or (cond b (
 or_found true e found = refl
 or_found false e found = refl
 
+-- an identity has the last entry that is put for it, or what it had
 pub entry_at_puts : (puts es : List Entry) (u : ℕ) → ascends es ≡ true → entry_at (put_all es puts) u ≡ option_or (entry_at (reverse puts) u) (entry_at es u)
 entry_at_puts [] es u asc = refl
 entry_at_puts (e ∷ puts) es u asc =

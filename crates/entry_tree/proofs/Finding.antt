@@ -1,6 +1,6 @@
 -- The first of ascending entries that passes a test, by the least identity whose entry does.
-use Rattle.std.proofs.Common.{◌≡◌, ◌<◌, ◌≤◌, ℕ, Bool, true, false, ◌||◌, cond, nat_eq, List, [], ◌∷◌, length, Bor, Option, Some, None, sym, ap, refl, ◌∙◌, subst, arith, inl, inr}
-use Rattle.std.specs.Prelude.{bytes_eq, is_some, option_and_then, option_copied, find}
+use Rattle.std.proofs.Common.{◌≡◌, ◌<◌, ◌≤◌, ℕ, Bool, true, false, ◌||◌, cond, nat_eq, List, [], ◌∷◌, length, Option, Some, None, sym, ap, refl, ◌∙◌, subst, arith, inl, inr}
+use Rattle.std.specs.Prelude.{bytes_eq, is_some, option_and_then, find}
 use Rattle.std.specs.List.{list_any}
 use Rattle.std.proofs.lemmas.Bool.{and_parts, eqb-true, eq-eqb, ne_eqb, false≢true, cases_lt}
 use Rattle.dn_names.specs.Names.{TypeAndValue, same_name, parent_of}
@@ -151,12 +151,21 @@ found_is p (e ∷ es) = by (p e) (found_is p es)
     by true rest = refl
     by false rest = rest
 
-pub has_name_found : (found : Option (Bor Entry)) (es : List Entry) (name : List (List TypeAndValue)) → option_copied found ≡ entry_named es name → is_some found ≡ has_name es name
-has_name_found found es name is = some_copied found ∙ ap is_some is ∙ found_is (is_named name) es
+-- there is a least identity at the path key of a name where an entry has the name
+pub has_name_by_index : (name : List (List TypeAndValue)) (es : List Entry) (names : Names) (path : List ℕ) (least : Option ℕ) → ascends es ≡ true → IsIndex names es → HasPath name → path ≡ path_key name
+    → IsLeast (ids_at names path) least → is_some least ≡ has_name es name
+has_name_by_index name es names path least asc index has is first =
+    sym (there least (least_by_index es names path least index first))
+    ∙ ap is_some (sym (named_by_index name es names path least asc index has is first))
+    ∙ found_is (is_named name) es
   where
-    some_copied : (found : Option (Bor Entry)) → is_some found ≡ is_some (option_copied found)
-    some_copied None = refl
-    some_copied (Some x) = refl
+    passes_some : (found : Option Entry) → has_path path found ≡ true → is_some found ≡ true
+    passes_some None has = absurd (false≢true has)
+    passes_some (Some e) has = refl
+
+    there : (least : Option ℕ) → IsLeastOf (λ u. has_path path (entry_at es u)) least → is_some (option_and_then (entry_at es) least) ≡ is_some least
+    there None none = refl
+    there (Some n) has = passes_some (entry_at es n) has.0
 
 -- the empty name has no parent
 pub no_parent : (es : List Entry) (name : List (List TypeAndValue)) → length name ≡ 0 → false ≡ has_parent es name

@@ -25,6 +25,7 @@ light_where_none weight total none =
     let within = refused_not (nat_lt most_entry_weight weight || nat_lt most_weight total) ADMIN_LIMIT_EXCEEDED None none in
     ltb-false most_weight total (or_parts (nat_lt most_entry_weight weight) (nat_lt most_weight total) within.0).1
 
+-- there is room for one entry more, and for its weight
 pub room_where_none : (entries : List Entry) (weight : ℕ) → limit_code entries weight ≡ None → (length entries < most_entries) × (total_weight entries + weight ≤ most_weight)
 room_where_none entries weight none =
     let within = refused_not (nat_le most_entries (length entries)) ADMIN_LIMIT_EXCEEDED (weight_code weight (total_weight entries + weight)) none in

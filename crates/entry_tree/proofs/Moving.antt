@@ -31,6 +31,7 @@ use Rattle.entry_tree.proofs.Replacing.{ascends_mapped}
 none_dropped : (name : List (List TypeAndValue)) → drop (length name - length name) name ≡ name
 none_dropped name = let none : length name - length name ≡ 0 = omega arith in ap (λ n. drop n name) none
 
+-- whatever the name is
 pub below_itself : (name : List (List TypeAndValue)) → is_at_or_below name name ≡ true
 below_itself name =
     and_from (nat_le (length name) (length name)) (same_name (drop (length name - length name) name) name) (le-leb (length name) (length name) (omega arith))

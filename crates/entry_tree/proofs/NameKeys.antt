@@ -38,8 +38,9 @@ key_is path key here = same_bytes path key.items (sym (is_eq-slice_cmp path key.
 pub own_key : (path : List ℕ) (key : Vec ℕ Global) → path ≡ key.items → is_key path key ≡ true
 own_key path key is = is_eq-slice_cmp path key.items ∙ (bytes_decides path key.items).1 is
 
-turned : (path : List ℕ) (key : Vec ℕ Global) → is_key path key ≡ bytes_eq key.items path
-turned path key = is_eq-slice_cmp path key.items ∙ nat_list_eq_equiv.symm path key.items
+-- the test of a key, as one of octets
+pub is_key-bytes_eq : (path : List ℕ) (key : Vec ℕ Global) → is_key path key ≡ bytes_eq key.items path
+is_key-bytes_eq path key = is_eq-slice_cmp path key.items ∙ nat_list_eq_equiv.symm path key.items
 
 -- ---- what is found after a key is written
 
@@ -49,8 +50,9 @@ apart path one other more here same =
     let text : one.items ≡ other.items = same_bytes one.items path same ∙ key_is path other here in
     false≢true (sym (ap is_eq more) ∙ is_eq-slice_cmp one.items other.items ∙ (bytes_decides one.items other.items).1 text)
 
+-- at this key stand these identities, and at others what stood there
 pub found_written : (names : Names) (key ids : Vec ℕ Global) (path : List ℕ) → found_at (insert_entry key_cmp names key ids) path ≡ cond (bytes_eq key.items path) (Some ids) (found_at names path)
-found_written [] key ids path = ap (λ b. cond b (Some ids) None) (turned path key)
+found_written [] key ids path = ap (λ b. cond b (Some ids) None) (is_key-bytes_eq path key)
 found_written (e ∷ names) key ids path = by (key_cmp key e.0) refl (found_written names key ids path)
   where
     old : Option (Vec ℕ Global)
@@ -75,17 +77,19 @@ found_written (e ∷ names) key ids path = by (key_cmp key e.0) refl (found_writ
     by : (o : Ordering) → key_cmp key e.0 ≡ o → found_at (insert_entry key_cmp names key ids) path ≡ cond (bytes_eq key.items path) (Some ids) old
         → found_at (match_ordering o ((key, ids) ∷ e ∷ names) ((e.0, ids) ∷ names) (e ∷ insert_entry key_cmp names key ids)) path
         ≡ cond (bytes_eq key.items path) (Some ids) (cond (is_key path e.0) (Some e.1) old)
-    by Less less rest = ap (λ b. cond b (Some ids) (cond (is_key path e.0) (Some e.1) old)) (turned path key)
+    by Less less rest = ap (λ b. cond b (Some ids) (cond (is_key path e.0) (Some e.1) old)) (is_key-bytes_eq path key)
     by Equal equal rest = before (is_key path e.0) refl (bytes_eq key.items path) refl equal
     by Greater more rest = after (is_key path e.0) refl (bytes_eq key.items path) refl more (found_at (insert_entry key_cmp names key ids) path) rest
 
 -- ---- what is found after a key is taken out
 
+-- a key that all others are after is not found among them
 pub none_later : (key : Vec ℕ Global) (path : List ℕ) (names : Names) → path ≡ key.items → AllByRecursion (λ other. key_cmp key other ≡ Less) (keys_of names) → found_at names path ≡ None
 none_later key path [] is above = refl
 none_later key path (e ∷ names) is above =
     ap (λ b. cond b (Some e.1) (found_at names path)) (ap (λ text. is_eq (slice_cmp nat_cmp text e.0.items)) is ∙ ap is_eq above.0) ∙ none_later key path names is above.1
 
+-- at this key stands nothing, and at others what stood there
 pub found_without : (names : Names) (path other : List ℕ) → IsStrictlySortedBy key_cmp (keys_of names) → found_at (remove_entry (is_key path) names) other ≡ cond (bytes_eq path other) None (found_at names other)
 found_without [] path other ordered = by (bytes_eq path other)
   where
@@ -116,6 +120,7 @@ module _ (old new : Names) (path : List ℕ) where
     found_new other =
         ap (λ names. found_at names other) is ∙ found_written old key ids other ∙ ap (λ own. cond (bytes_eq own other) (Some ids) (found_at old other)) text
 
+    -- these identities stand at the path key then
     pub writes_some : Writes old new path ids.items
     writes_some other id = ap (λ found. among id (listed found)) (found_new other) ∙ by (bytes_eq path other)
       where
@@ -123,6 +128,7 @@ module _ (old new : Names) (path : List ℕ) where
         by true = refl
         by false = refl
 
+    -- where they are some, at each key stands one at least
     pub some_written : 0 < length ids.items → HasNoEmpty old → HasNoEmpty new
     some_written some all other = subst (λ found. IfSome found (λ (s : Vec ℕ Global). 0 < length s.items)) (sym (found_new other)) (by (bytes_eq path other))
       where
@@ -135,6 +141,7 @@ module _ (old new : Names) (path : List ℕ) where
     found_less : (other : List ℕ) → found_at new other ≡ cond (bytes_eq path other) None (found_at old other)
     found_less other = ap (λ names. found_at names other) is ∙ found_without old path other ordered
 
+    -- where they are none, the key is gone
     pub writes_none : Writes old new path ids
     writes_none other id = ap (λ found. among id (listed found)) (found_less other) ∙ by (bytes_eq path other) ids none
       where
@@ -143,6 +150,7 @@ module _ (old new : Names) (path : List ℕ) where
         by true (u ∷ us) empty = absurd (omega (arith, empty))
         by false us empty = refl
 
+    -- and at each other key stands one at least
     pub some_without : HasNoEmpty old → HasNoEmpty new
     some_without all other = subst (λ found. IfSome found (λ (s : Vec ℕ Global). 0 < length s.items)) (sym (found_less other)) (by (bytes_eq path other))
       where
@@ -155,6 +163,7 @@ pub some_items : {X : Type 0} (ids : List X) (empty : Bool) → empty ≡ nat_eq
 some_items [] empty is off = absurd (false≢true (sym off ∙ is))
 some_items (u ∷ ids) empty is off = omega arith
 
+-- a list that is said to be empty has no element
 pub no_items : {X : Type 0} (ids : List X) (empty : Bool) → empty ≡ nat_eq (length ids) 0 → empty ≡ true → length ids ≡ 0
 no_items ids empty is on = eqb-true (length ids) 0 (sym is ∙ on)
 
@@ -208,6 +217,7 @@ sets_forgotten old new path uuid others are writes other id =
 pub ids_found : (names : Names) (path : List ℕ) (ids : Vec ℕ Global) → Some ids ≡ found_at names path → ids.items ≡ ids_at names path
 ids_found names path ids found = ap listed found
 
+-- at a key that is not there stands no identity
 pub ids_absent : (names : Names) (path : List ℕ) → found_at names path ≡ None → ids_at names path ≡ []
 ids_absent names path none = ap listed none
 

@@ -7,7 +7,6 @@ use Rattle.std.specs.List.{AllByRecursion, list_any, starts_with}
 use Rattle.std.specs.List.Sorted.{IsStrictlySortedBy}
 use Rattle.std.specs.Map.{keys_of, lookup_entry}
 use Rattle.std.specs.Ordering.{nat_cmp, is_eq, is_gt, is_lt, ordering_then}
-use Rattle.std.specs.declared.cmp.Ordering.{Ordering}
 use Rattle.std.specs.declared.cmp.Ordering.TheVariants.{Less, Equal, Greater}
 use Rattle.std.proofs.lemmas.Bool.{and_parts, and_from, cases_order, false≢true, eq-eqb}
 use Rattle.std.proofs.lemmas.Bool.Decides.{Decides-eqb, nat_tests}
@@ -15,6 +14,7 @@ use Rattle.std.proofs.lemmas.Map.Keys.{sorted_head, sorted_tail}
 use Rattle.std.proofs.lemmas.Map.Text.{is_eq-slice_cmp}
 use Rattle.std.proofs.lemmas.Slice.Eq.{starts_is}
 use Rattle.dn_names.specs.Names.{TypeAndValue, is_at_or_below}
+use Rattle.csn_cookie.proofs.OrderLemmas.{less_from}
 use Rattle.dn_names.specs.Paths.{path_key, HasPath}
 use Rattle.dn_names.proofs.PathKeys.{starts_is_below, equal_is_same}
 use Rattle.entry_writes.specs.declared.entry.Entry.{Entry}
@@ -68,6 +68,7 @@ parts_of longer path is =
     some [] same false differ is = absurd (false≢true (sym differ ∙ (bytes_decides longer path).1 (same ∙ append-nil path)))
     some (y ∷ rest) same b equal is = omega arith
 
+-- a text that is another with more after it begins with it
 pub begins : (text path tail : List ℕ) → text ≡ path ++ tail → starts_with nat_eq text path ≡ true
 begins text path tail is = (starts_is Decides-eqb text path (starts_with nat_eq text path) refl).1 tail is
 
@@ -85,11 +86,6 @@ other_above path next less = by (bytes_eq next path) refl
 -- the key is above the path
 abbrev pub is_above : List ℕ → Vec ℕ Global → Bool
 is_above path key = is_lt (slice_cmp nat_cmp path key.items)
-
-less_where : (o : Ordering) → is_lt o ≡ true → o ≡ Less
-less_where Less is = refl
-less_where Equal is = absurd (false≢true is)
-less_where Greater is = absurd (false≢true is)
 
 -- the first key that is above a path is a key of the index
 pub next_found : (path : List ℕ) (names : Names) (next ids : Vec ℕ Global) → lookup_entry (is_above path) names ≡ Some (next, ids)
@@ -196,7 +192,7 @@ module _ (names : Names) (path : List ℕ) where
       there = next_found path names next ids first
 
       less : slice_cmp nat_cmp path next.items ≡ Less
-      less = less_where (slice_cmp nat_cmp path next.items) there.0
+      less = less_from (slice_cmp nat_cmp path next.items) there.0
 
       by : (b : Bool) → starts_with nat_eq next.items path ≡ b → IsLonger names path b
       by true starts =

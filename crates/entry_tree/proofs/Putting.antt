@@ -94,6 +94,7 @@ ascends_put e (x ∷ es) asc =
         ap ascends (put_before e x es more later)
         ∙ and_from (above e.uuid (x ∷ es)) (ascends (x ∷ es)) (above_all e.uuid x es more later) (and_from (above x.uuid es) (ascends es) later rest)
 
+-- there is at most one entry more
 pub length_put : (e : Entry) (es : List Entry) → ascends es ≡ true → length (put e es) ≤ length es + 1
 length_put e [] asc = omega arith
 length_put e (x ∷ es) asc =

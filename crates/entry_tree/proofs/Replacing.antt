@@ -118,6 +118,7 @@ replaced_keeps u new same e = by (nat_eq e.uuid u) refl
     by true hit = same ∙ sym (eqb-true e.uuid u hit)
     by false miss = refl
 
+-- the entries are still in order
 pub ascends_replaced : (es : List Entry) (place : ℕ) (d new : Entry) → ascends es ≡ true → place < length es → new.uuid ≡ (get_or es place d).uuid
     → ascends (set es place new) ≡ true
 ascends_replaced es place d new asc low same =

@@ -8,17 +8,12 @@ use Rattle.std.proofs.lemmas.Bool.{and_parts, and_from, eq-eqb, eqb-true, lt-ltb
 use Rattle.std.proofs.lemmas.Bool.Decides.{nat_tests}
 use Rattle.std.proofs.lemmas.List.{take_more}
 use Rattle.std.proofs.lemmas.List.Sums.{fold-append}
-use Rattle.entry_writes.specs.Touched.{joined}
+use Rattle.entry_writes.specs.Touched.{joined, rises}
 use Rattle.entry_writes.proofs.Passing.{list_all-filter}
 
 -- whether a number is below all of these
 abbrev pub below_all : ℕ → List ℕ → Bool
 below_all n ns = list_all (nat_lt n) ns
-
--- whether numbers ascend
-abbrev pub rises : List ℕ → Bool
-rises [] = true
-rises (n ∷ ns) = below_all n ns && rises ns
 
 -- whether a number is among these
 abbrev pub among : ℕ → List ℕ → Bool
@@ -105,6 +100,7 @@ same_first n ns m ms below same less =
     let here : among n (n ∷ ns) ≡ true = ap (λ b. b || among n ns) (eq-eqb n n refl) in
     false≢true (sym off ∙ sym same ∙ here)
 
+-- lists that rise and have the same numbers are equal
 pub same_numbers : (ns ms : List ℕ) → rises ns ≡ true → rises ms ≡ true → ((u : ℕ) → among u ns ≡ among u ms) → ns ≡ ms
 same_numbers [] [] up rising same = refl
 same_numbers [] (m ∷ ms) up rising same = absurd (false≢true (same m ∙ ap (λ b. b || among m ms) (eq-eqb m m refl)))

@@ -21,6 +21,7 @@ less_where a b is = subst (λ o. MatchOrdering o (a < b) (a ≡ b) (b < a)) is (
 pub same_where : (a b : ℕ) → nat_cmp a b ≡ Equal → a ≡ b
 same_where a b is = subst (λ o. MatchOrdering o (a < b) (a ≡ b) (b < a)) is (ranks a b)
 
+-- what is compared as greater is greater
 pub more_where : (a b : ℕ) → nat_cmp a b ≡ Greater → b < a
 more_where a b is = subst (λ o. MatchOrdering o (a < b) (a ≡ b) (b < a)) is (ranks a b)
 

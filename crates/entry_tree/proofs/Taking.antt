@@ -16,16 +16,16 @@ use Rattle.dn_names.specs.Sound.{most_rdns}
 use Rattle.dn_names.proofs.PathKeys.{equal_is_same}
 use Rattle.entry_writes.specs.declared.entry.Entry.{Entry}
 use Rattle.entry_writes.specs.State.{ascends, entry_at, is_identified, is_named}
-use Rattle.entry_writes.specs.Touched.{identities, joined}
+use Rattle.entry_writes.specs.Touched.{identities, joined, rises}
 use Rattle.entry_writes.proofs.Identities.{at_each}
-use Rattle.entry_tree.specs.NameIndex.{Names, ids_at, has_path, IsIndex, HasPathKey}
+use Rattle.entry_tree.specs.NameIndex.{Names, ids_at, has_path, has_path_key, IsIndex, HasPathKey}
 use Rattle.entry_tree.proofs.Changing.{own_uuid}
 use Rattle.entry_tree.proofs.Committing.{rises-identities}
 use Rattle.entry_tree.proofs.Directory.{ascends_filter}
 use Rattle.entry_tree.proofs.Finding.{passes}
 use Rattle.entry_tree.proofs.Moving.{any_where_held, long_where_none}
 use Rattle.entry_tree.proofs.Order.{entry_at-filter}
-use Rattle.entry_tree.proofs.Rising.{among, among-joined, rises, rises-joined, same_numbers}
+use Rattle.entry_tree.proofs.Rising.{among, among-joined, rises-joined, same_numbers}
 
 -- ---- identities whose entries pass
 
@@ -72,6 +72,18 @@ taken_entries test es us asc up are =
 -- one more identity is looked at
 pub taken_more : (es : List Entry) (us : List ℕ) (i : ℕ) → i < length us → filter_map (entry_at es) (take (i + 1) us) ≡ filter_map (entry_at es) (take i us) ++ cons_option (entry_at es (get_or us i 0)) []
 taken_more es us i low = ap (filter_map (entry_at es)) (take_more us i 0 low) ∙ filter_map-append (entry_at es) (take i us) (get_or us i 0 ∷ [])
+
+-- ---- entries of one path key
+
+path_is : (path : List ℕ) (found : Option Entry) → has_path path found ≡ passes (has_path_key path) found
+path_is path None = refl
+path_is path (Some e) = refl
+
+-- the entries of what stands at a path key are those whose names have it
+pub at_path_is : (path : List ℕ) (es : List Entry) (names : Names) → ascends es ≡ true → IsIndex names es → filter_map (entry_at es) (joined [] (ids_at names path)) ≡ filter (has_path_key path) es
+at_path_is path es names asc index =
+    taken_entries (has_path_key path) es (joined [] (ids_at names path)) asc (rises-joined [] (ids_at names path) refl)
+    (λ u. among-joined u [] (ids_at names path) ∙ or-false (among u (ids_at names path)) ∙ index.exact path u ∙ path_is path (entry_at es u))
 
 -- ---- entries of one name
 

@@ -8,11 +8,11 @@ use Rattle.std.proofs.lemmas.List.Sums.{sum_by-cons}
 use Rattle.entry_writes.specs.declared.entry.Entry.{Entry}
 use Rattle.entry_writes.specs.declared.touched.EntryChange.{EntryChange}
 use Rattle.entry_writes.specs.State.{ascends, entry_at}
-use Rattle.entry_writes.specs.Touched.{identities, joined, change_at, is_change, touched}
+use Rattle.entry_writes.specs.Touched.{identities, joined, change_at, is_change, touched, rises}
 use Rattle.entry_writes.proofs.Identities.{above, none_at}
 use Rattle.entry_tree.proofs.Changing.{same_where, none_outside, touched_at}
 use Rattle.entry_tree.proofs.Committing.{rises-identities}
-use Rattle.entry_tree.proofs.Rising.{among, below_all, rises, rises-joined}
+use Rattle.entry_tree.proofs.Rising.{among, below_all, rises-joined}
 
 -- ---- sums
 

@@ -179,6 +179,7 @@ from_on path names done (next ∷ left) ordered whole here =
     let split = subst (λ ns. IsStrictlySortedBy key_cmp (keys_of ns)) whole ordered in
     (here, each_key (λ key less. ap is_le (le_lt_trans nat_list_cmp_total path next.0.items key.items here less)) (keys_of left) (above_pair key_cmp done next left split))
 
+-- a walk begins at the first key from the path on
 pub walk_starts : (names : Names) (path : List ℕ) → IsStrictlySortedBy key_cmp (keys_of names) → Walks names path (lookup_entry (is_from path) names) []
 walk_starts names path ordered =
     let at = split_at (is_from path) names in

@@ -46,6 +46,7 @@ pub record Weighs (old new : List Entry) (changes : List EntryChange) : Type 0 w
   pub after : weight_after changes ≤ total_weight new
   pub both : total_weight new + weight_before changes ≡ total_weight old + weight_after changes
 
+-- what differs between entries takes away and brings the difference of their weights
 pub weighs_touched : (old new : List Entry) → ascends old ≡ true → ascends new ≡ true → Weighs old new (touched old new)
 weighs_touched old new asc up =
     let adds = adds_touched (λ (e : Entry). weight_of e.attrs) old new asc up in

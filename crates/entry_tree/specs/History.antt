@@ -3,7 +3,6 @@ use Rattle.std.specs.Prelude.{ℕ, zero, suc, ◌+◌, ◌-◌, ◌*◌, ◌%◌
 use Rattle.entry_writes.specs.declared.entry.Entry.{Entry}
 use Rattle.entry_writes.specs.declared.op.Write.{Write}
 use Rattle.entry_writes.specs.Effects.{effect}
-use Rattle.entry_tree.specs.Selection.{Search, select}
 use Rattle.entry_writes.specs.Touched.{touched, joined}
 
 -- the identity of an entry that write `number` of a history adds: a UUID of version 8 (RFC 9562,
@@ -21,10 +20,6 @@ state_from history entries before (write ∷ writes) =
 -- the entries after the first `count` writes of a history
 abbrev pub state_of : ℕ → List Write → ℕ → List Entry
 state_of history writes count = state_from history [] 0 (take count writes)
-
--- what a specification selects from them
-abbrev pub content : Search → ℕ → List Write → ℕ → List Entry
-content search history writes count = select search (state_of history writes count)
 
 -- the identities that differ between neighbours of these states, over n steps
 unfoldable pub differing_over : (ℕ → List Entry) → ℕ → ℕ → List ℕ

@@ -1,11 +1,12 @@
 -- What a specification selects from entries, histories of writes, commits that there is room for,
--- what these are judged by, and the parts of a tree, with what entry_writes says of entries and
--- writes.
+-- what these are judged by, the parts of a tree, and names that an equality pins, with what
+-- entry_writes says of entries and writes.
 pub mod FilterCode
 pub mod Fitting
 pub mod History
 pub mod Judging
 pub mod NameIndex
+pub mod Pinned
 pub mod Selection
 pub use Rattle.entry_writes.specs.Bytes
 pub use Rattle.entry_writes.specs.Codes

@@ -1,5 +1,5 @@
--- The parts of a tree: its entries by their identities, and the identities of the entries by the
--- path keys of their names.
+-- The parts of a tree: its entries by their identities, the identities of the entries by the path
+-- keys of their names, and how many entries have each type otherwise than as their whole RDN.
 use Rattle.std.specs.Prelude.{◌≡◌, ◌≤◌, ◌<◌, ℕ, Bool, true, false, not, ◌&&◌, ◌==◌, if◌then◌else◌, List, [], map, length, Option, Some, None, Vec, IfSome, nat_eq, nat_lt, bytes_eq}
 use Rattle.std.proofs.Common.{Global}
 use Rattle.std.specs.BTreeMap.{is_at}
@@ -11,6 +11,7 @@ use Rattle.dn_names.specs.Paths.{path_key, HasPath}
 use Rattle.entry_writes.specs.declared.entry.Entry.{Entry}
 use Rattle.entry_writes.specs.declared.touched.EntryChange.{EntryChange}
 use Rattle.entry_writes.specs.State.{entry_at, IsDirectory}
+use Rattle.entry_tree.specs.Pinned.{CountsStrays}
 
 -- ---- identities at path keys
 
@@ -103,6 +104,10 @@ abbrev pub has_path : List ℕ → Option Entry → Bool
 has_path path None = false
 has_path path (Some e) = bytes_eq (path_key e.dn) path
 
+-- the entry's name has the path key
+abbrev pub has_path_key : List ℕ → Entry → Bool
+has_path_key path e = bytes_eq (path_key e.dn) path
+
 -- each identity stands at the path key of its entry's name, and nowhere else
 pub record IsIndex (names : Names) (entries : List Entry) : Type 0 where
   pub exact :
@@ -140,7 +145,9 @@ abbrev pub by_identity : List Entry → List (ℕ × Entry)
 by_identity entries = map (λ (e : Entry). (e.uuid, e)) entries
 
 -- what holds of the parts of a tree
-pub record IsTree (entries : List (ℕ × Entry)) (names : Names) (weight : ℕ) : Type 0 where
+pub record IsTree (entries : List (ℕ × Entry)) (names : Names) (weight : ℕ)
+    (strays : List ℕ) : Type 0 where
   pub keyed : entries ≡ by_identity (values_of entries)
   pub directory : IsDirectory (values_of entries) weight
   pub index : IsIndex names (values_of entries)
+  pub counted : CountsStrays strays (values_of entries)

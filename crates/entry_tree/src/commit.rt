@@ -54,9 +54,9 @@ impl Tree {
     }
 
     /// What differs after a commit, where the entries after it may be held, or else what
-    /// `check_commit` reports of it. Where no two entries have one name, as `unique_names` states, it
-    /// is judged by what it puts and drops, and all entries are looked at only where something may be
-    /// against that.
+    /// `check_commit` reports of it. Where no two entries have one name, as `unique_names` states,
+    /// it is judged by what it puts and drops, and all entries are looked at only where something
+    /// may be against that.
     pub fn plan_commit(
         &self,
         puts: &[Entry],

@@ -15,6 +15,7 @@ impl Tree {
             entries: self.entries.copy()?,
             names: self.names.copy()?,
             weight: self.weight,
+            strays: self.strays,
         })
     }
 }

@@ -19,9 +19,10 @@ impl Tree {
             (IsPlan self.now (filter (λ e. not (state.is_named dn.now e)) self.now)) }
         ensures refused { IfErr result (HasOpCode (delete_code self.now dn.now)) }
     {
-        self.check_delete(dn)?;
         let entries = self.at_name(dn)?;
-        Ok(removals(self.alloc, &entries)?)
+        let named = entries.as_slice();
+        self.check_delete(dn, named)?;
+        Ok(removals(self.alloc, named)?)
     }
 }
 

@@ -12,11 +12,13 @@ mod judging;
 mod listing;
 mod modify;
 mod names;
+mod pinned;
 mod places;
 mod put;
 mod reindex;
 mod rename;
 mod spec;
+mod strays;
 mod target;
 mod tree;
 

@@ -26,6 +26,15 @@ impl Tree {
         self.entries_of(&uuids)
     }
 
+    /// The entries whose name has this path key.
+    fn at_path(&self, path: &[u8]) -> Result<Vec<&Entry>, NoMemory>
+        ensures { IfOk result (λ entries.
+            map (λ e. e.now) entries.items ≡ filter (index.has_path_key path.now) self.now) }
+    {
+        let uuids = ids_in_order(self.alloc, &self.names, path)?;
+        self.entries_of(&uuids)
+    }
+
     /// The entries at or below the name.
     pub(crate) fn at_or_below(&self, dn: &Dn) -> Result<Vec<&Entry>, NoMemory>
         ensures { IfOk result (λ entries.
@@ -46,7 +55,22 @@ impl Tree {
     {
         match spec.scope {
             Scope::Base => self.at_name(&spec.base),
-            Scope::One | Scope::Sub => self.near(&spec.base),
+            Scope::One => self.reached_below(spec),
+            Scope::Sub => self.near(&spec.base),
+        }
+    }
+
+    /// The same for entries directly below the base: those of one name, where the search comes to
+    /// no other.
+    fn reached_below(&self, spec: &Spec) -> Result<Vec<&Entry>, NoMemory>
+        requires { spec.now.scope ≡ Scope.One }
+        ensures { IfOk result (λ entries.
+            select (search_of spec.now) (map (λ e. e.now) entries.items)
+            ≡ select (search_of spec.now) self.now) }
+    {
+        match self.pinned_path(spec)? {
+            Some(path) => self.at_path(&path),
+            None => self.near(&spec.base),
         }
     }
 

@@ -1,13 +1,13 @@
 //! Which names have entries.
-ghost use Rattle.std.specs.Prelude.{◌≡◌, None, IfErr, OnOk};
+ghost use Rattle.std.specs.Prelude.{◌≡◌, None, filter, map, IfErr, OnOk};
 ghost use Rattle.entry_writes.specs.Codes as codes;
 ghost use Rattle.entry_writes.specs.Fault.{HasOpCode};
 ghost use Rattle.entry_writes.specs.State as state;
 
-use crate::names::has_longer;
+use crate::names::{first_at, has_longer};
 use crate::tree::Tree;
 use dn_names::Dn;
-use entry_writes::OpFault;
+use entry_writes::{Entry, OpFault};
 use ldap_constants::{ENTRY_ALREADY_EXISTS, NO_SUCH_OBJECT, NOT_ALLOWED_ON_NON_LEAF};
 
 impl Tree {
@@ -44,7 +44,7 @@ impl Tree {
     pub(crate) fn has_name(&self, dn: &Dn) -> bool
         ensures { result ≡ state.has_name self.now dn.now }
     {
-        self.find(dn).is_some()
+        first_at(&self.names, dn.path()).is_some()
     }
 
     /// Whether an entry has the name of the parent; the empty name has none.
@@ -54,7 +54,7 @@ impl Tree {
         if dn.rdns().is_empty() {
             return false;
         }
-        self.find_at(dn.parent_path()).is_some()
+        first_at(&self.names, dn.parent_path()).is_some()
     }
 
     /// Whether an entry is below the name.
@@ -64,13 +64,15 @@ impl Tree {
         has_longer(&self.names, dn.path())
     }
 
-    /// Refuses a Delete (RFC 4511, section 4.8) with noSuchObject (32) where no entry has the
-    /// name, else with notAllowedOnNonLeaf (66) where there are entries below it.
-    pub(crate) fn check_delete(&self, dn: &Dn) -> Result<(), OpFault>
+    /// Refuses a Delete (RFC 4511, section 4.8) of the name that these entries have with
+    /// noSuchObject (32) where there are none, else with notAllowedOnNonLeaf (66) where there are
+    /// entries below it.
+    pub(crate) fn check_delete(&self, dn: &Dn, named: &[&Entry]) -> Result<(), OpFault>
+        requires { map (λ e. e.now) named.now ≡ filter (state.is_named dn.now) self.now }
         ensures ok { OnOk result (codes.delete_code self.now dn.now ≡ None) }
         ensures fault { IfErr result (HasOpCode (codes.delete_code self.now dn.now)) }
     {
-        if !self.has_name(dn) {
+        if named.is_empty() {
             return Err(OpFault::Code(NO_SUCH_OBJECT));
         }
         if self.has_below(dn) {

@@ -8,6 +8,7 @@ ghost use Rattle.entry_writes.specs.State as state;
 ghost use Rattle.entry_writes.specs.Touched as changing;
 
 use crate::reindex::reindexed;
+use crate::strays::strays_with;
 use crate::tree::{Entries, Tree};
 use entry_writes::{Entry, EntryChange, Touched};
 use ldap_ber::NoMemory;
@@ -31,27 +32,40 @@ impl Tree {
         ensures { IfOk result (λ after.
             after ≡ changing.with_changes self.now entry_changes.now) }
     {
+        let copy = self.copy()?;
+        copy.changed_by(entry_changes)
+    }
+
+    /// The entries after such changes. They are changed where they stand, as far as no other tree
+    /// shares them; without memory they are lost.
+    pub fn changed_by(self, entry_changes: &Touched) -> Result<Tree, NoMemory>
+        requires { changing.CanBeMade self entry_changes.now }
+        ensures { IfOk result (λ after.
+            after ≡ changing.with_changes self entry_changes.now) }
+    {
         let changes = entry_changes.list();
         let weight = weight_with(self.weight, changes);
-        let names = reindexed(self.alloc, &self.names, changes)?;
-        let entries = changed(&self.entries, changes)?;
+        let strays = strays_with(&self.strays, changes);
+        let names = reindexed(self.alloc, self.names, changes)?;
+        let entries = changed(self.entries, changes)?;
         Ok(Tree {
             alloc: self.alloc,
             entries,
             names,
             weight,
+            strays,
         })
     }
 }
 
 /// The entries after the changes.
-fn changed(entries: &Entries, changes: &[EntryChange]) -> Result<Entries, NoMemory>
-    requires keyed { entries.now ≡ by_identity (values_of entries.now) }
-    requires ascends { state.ascends (values_of entries.now) ≡ true }
+fn changed(entries: Entries, changes: &[EntryChange]) -> Result<Entries, NoMemory>
+    requires keyed { entries ≡ by_identity (values_of entries) }
+    requires ascends { state.ascends (values_of entries) ≡ true }
     ensures { IfOk result (λ after.
-        after ≡ by_identity (changing.with_changes (values_of entries.now) changes.now)) }
+        after ≡ by_identity (changing.with_changes (values_of entries) changes.now)) }
 {
-    let mut after = entries.copy()?;
+    let mut after = entries;
     remove_each(&mut after, changes)?;
     put_each(&mut after, changes)?;
     Ok(after)

@@ -11,18 +11,18 @@ use std::alloc::Global;
 /// bring.
 pub(crate) fn reindexed(
     alloc: Global,
-    names: &Names,
+    names: Names,
     changes: &[EntryChange],
 ) -> Result<Names, NoMemory>
-    requires { index.HasNoEmpty names.now }
+    requires { index.HasNoEmpty names }
     ensures exact { IfOk result (λ after. (path : List ℕ) (uuid : ℕ)
         → index.stands_at after path uuid
         ≡ (index.comes path uuid changes.now
-        || (not (index.goes path uuid changes.now) && index.stands_at names.now path uuid))) }
+        || (not (index.goes path uuid changes.now) && index.stands_at names path uuid))) }
     ensures some { IfOk result index.HasNoEmpty }
     ensures placed { OnOk result (All index.BringsPathKey changes.now) }
 {
-    let mut after = names.copy()?;
+    let mut after = names;
     forget_each(alloc, &mut after, changes)?;
     note_each(alloc, &mut after, changes)?;
     Ok(after)

@@ -14,6 +14,7 @@ ghost use Rattle.entry_writes.specs.Touched.{touched, with_changes, CanBeMade, I
 
 use crate::names::{Names, first_at};
 use crate::spec::Spec;
+use crate::strays::{Strays, no_strays};
 use csn_cookie::Csn;
 use dn_names::Dn;
 use entry_writes::{Entry, EntryList, Op, OpFault, Touched};
@@ -33,6 +34,7 @@ pub struct Tree {
     /// The index of the entries by their names.
     pub(crate) names: Names,
     pub(crate) weight: u64,
+    pub(crate) strays: Strays,
 }
 
 /// Contracts see the entries in ascending order of identity.
@@ -46,7 +48,7 @@ impl Model for Tree {
 
     ghost view = { λ t. values_of t.entries };
 
-    ghost invariant = { λ t. IsTree t.entries t.names t.weight };
+    ghost invariant = { λ t. IsTree t.entries t.names t.weight t.strays };
 }
 
 impl Tree {
@@ -59,6 +61,7 @@ impl Tree {
             entries: SharedMap::new(alloc),
             names: SharedMap::new(alloc),
             weight: 0,
+            strays: no_strays(),
         }
     }
 

@@ -9,12 +9,12 @@ use Rattle.std.proofs.lemmas.List.Quantifiers.{all_pairs_push}
 use Rattle.schema_rules.specs.declared.attributes.Attribute.{Attribute}
 use Rattle.schema_rules.specs.declared.raw.How.{How}
 use Rattle.schema_rules.specs.declared.raw.How.TheVariants as how
-use Rattle.schema_rules.specs.Attributes.{IsAttributeList, is_of_syntax, with_values}
+use Rattle.schema_rules.specs.Attributes.{IsAttributeList, is_of_syntax, with_values, has_kind}
 use Rattle.schema_rules.specs.Keys.{keys_of}
 use Rattle.schema_rules.specs.Schema.{is_operational}
 use Rattle.schema_rules.proofs.Joining.{IsAttributeList-with_values}
 use Rattle.entry_writes.specs.declared.edit.Edit.{Edit}
-use Rattle.entry_writes.specs.Edits.{filled, change_of, with_change, unmatched, without_kind, without_values, with_only, has_kind, deleted, replaced, changed, after_edit, after_edits}
+use Rattle.entry_writes.specs.Edits.{filled, change_of, with_change, unmatched, without_kind, without_values, with_only, deleted, replaced, changed, after_edit, after_edits}
 use Rattle.entry_writes.specs.Sound.{may_be_empty, is_sound_edit}
 
 abbrev differ : Attribute → Attribute → Type 0
@@ -25,6 +25,7 @@ has_values a = a.values ≢ []
 
 -- ---- some of the attributes
 
+-- without one type
 pub IsAttributeList-without_kind : (attrs : List Attribute) (kind : ℕ) → IsAttributeList attrs → IsAttributeList (without_kind attrs kind)
 IsAttributeList-without_kind attrs kind list = record {
   once = AllPairs-filter differ (λ a. not (nat_eq a.kind kind)) attrs list.once;
@@ -81,6 +82,7 @@ other_kind [] kind k d none low = absurd (omega arith)
 other_kind (a ∷ attrs) kind zero d none low = λ same. false≢true (sym (or_parts (nat_eq a.kind kind) (has_kind attrs kind) none).0 ∙ eq-eqb a.kind kind same)
 other_kind (a ∷ attrs) kind (suc k) d none low = other_kind attrs kind k d (or_parts (nat_eq a.kind kind) (has_kind attrs kind) none).1 (omega arith)
 
+-- the others stay as they are
 pub IsAttributeList-with_only : (attrs : List Attribute) (kind : ℕ) (values : List (List ℕ)) → IsAttributeList attrs → values ≢ [] → IsAttributeList (with_only attrs kind values)
 IsAttributeList-with_only attrs kind values list new =
     cond_both (has_kind attrs kind) (with_change (λ _. values) attrs kind) (attrs ++ fresh ∷ []) IsAttributeList (λ _. there) absent
@@ -106,11 +108,13 @@ IsAttributeList-with_only attrs kind values list new =
 
 -- ---- edits that clients may ask for
 
+-- after values are deleted
 pub IsAttributeList-deleted : (attrs : List Attribute) (kind : ℕ) (values : List (List ℕ)) → IsAttributeList attrs → IsAttributeList (deleted attrs kind values)
 IsAttributeList-deleted attrs kind values list =
     cond_both (nat_eq (length values) 0) (without_kind attrs kind) (without_values attrs kind values) IsAttributeList
     (λ _. IsAttributeList-without_kind attrs kind list) (λ _. IsAttributeList-without_values attrs kind values list)
 
+-- after values are replaced
 pub IsAttributeList-replaced : (attrs : List Attribute) (kind : ℕ) (values : List (List ℕ)) → IsAttributeList attrs → IsAttributeList (replaced attrs kind values)
 IsAttributeList-replaced attrs kind values list =
     cond_both (nat_eq (length values) 0) (without_kind attrs kind) (with_only attrs kind values) IsAttributeList
@@ -128,6 +132,7 @@ IsAttributeList-after_edit attrs edit sound list =
     let parts = and_parts (not (is_operational edit.kind)) _ sound in
     IsAttributeList-changed edit.how attrs edit.kind edit.values (and_parts (list_all (is_of_syntax edit.kind) edit.values) _ parts.1).1 list
 
+-- after any sound edits
 pub IsAttributeList-after_edits : (attrs : List Attribute) (edits : List Edit) → list_all is_sound_edit edits ≡ true → IsAttributeList attrs → IsAttributeList (after_edits attrs edits)
 IsAttributeList-after_edits attrs [] sound list = list
 IsAttributeList-after_edits attrs (edit ∷ edits) sound list =

@@ -77,6 +77,7 @@ at_each (e ∷ es) asc (suc k) d low =
 abbrev pub Keeps : (Entry → Option Entry) → Type 0
 Keeps step = (e new : Entry) → step e ≡ Some new → new.uuid ≡ e.uuid
 
+-- what an identity has after it is what its entry was taken to
 pub at_stepped : (step : Entry → Option Entry) → Keeps step → (old : List Entry) (u : ℕ) → ascends old ≡ true
     → entry_at (filter_map step old) u ≡ option_and_then step (entry_at old u)
 at_stepped step keeps [] u asc = refl

@@ -7,17 +7,13 @@ use Rattle.ldap_constants.specs.declared.result_codes.TheConstants.{NO_SUCH_ATTR
 use Rattle.schema_rules.specs.declared.attributes.Attribute.{Attribute}
 use Rattle.schema_rules.specs.declared.raw.How.{How}
 use Rattle.schema_rules.specs.declared.raw.How.TheVariants as how
-use Rattle.schema_rules.specs.Attributes.{with_values, has_duplicates}
+use Rattle.schema_rules.specs.Attributes.{with_values, has_duplicates, has_kind}
 use Rattle.schema_rules.specs.Keys.{key_of, keys_of}
 use Rattle.schema_rules.specs.Schema.{is_among}
 use Rattle.dn_names.specs.Names.{TypeAndValue, has_pair}
 use Rattle.entry_writes.specs.declared.edit.Edit.{Edit}
 
 -- ---- what attributes have
-
--- the type is there
-abbrev pub has_kind : List Attribute → ℕ → Bool
-has_kind attrs kind = list_any (λ a. a.kind == kind) attrs
 
 abbrev pub is_key_among : List (List ℕ) → Option (List ℕ) → Bool
 is_key_among keys None = false

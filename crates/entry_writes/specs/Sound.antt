@@ -3,9 +3,8 @@ use Rattle.std.specs.Prelude.{Bool, true, not, ◌&&◌, ◌||◌, ◌==◌, fal
 use Rattle.std.specs.List.{list_all}
 use Rattle.schema_rules.specs.declared.raw.How.{How}
 use Rattle.schema_rules.specs.declared.raw.How.TheVariants as how
-use Rattle.schema_rules.specs.Attributes.{is_sound, is_of_syntax}
+use Rattle.schema_rules.specs.Attributes.{is_given, is_sound, is_of_syntax}
 use Rattle.schema_rules.specs.Schema.{is_operational}
-use Rattle.schema_rules.specs.declared.attributes.Attribute.{Attribute}
 use Rattle.entry_writes.specs.declared.edit.Edit.{Edit}
 use Rattle.entry_writes.specs.declared.entry.Entry.{Entry}
 use Rattle.entry_writes.specs.declared.op.Op.{Op}
@@ -25,11 +24,8 @@ is_sound_edit edit =
     && (may_be_empty edit.how || not (length edit.values == 0)))
 
 -- each value of the entry is of its type's syntax, and no type is operational
-abbrev pub is_sound_attribute : Attribute → Bool
-is_sound_attribute a = not (is_operational a.kind) && list_all (is_of_syntax a.kind) a.values
-
 abbrev pub is_sound_put : Entry → Bool
-is_sound_put e = list_all is_sound_attribute e.attrs
+is_sound_put e = list_all is_given e.attrs
 
 -- and no two values of a type that is added have one key
 abbrev pub is_sound_op : Op → Bool

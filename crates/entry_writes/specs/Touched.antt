@@ -1,6 +1,6 @@
 -- The identities whose entry a write changes.
-use Rattle.std.specs.Prelude.{◌≡◌, ℕ, Bool, true, not, is_none, List, map, filter, fold, sum_by, Some}
-use Rattle.std.specs.List.{filter_map}
+use Rattle.std.specs.Prelude.{◌≡◌, ℕ, Bool, true, not, ◌&&◌, nat_lt, is_none, List, [], ◌∷◌, map, filter, fold, sum_by, Some}
+use Rattle.std.specs.List.{filter_map, list_all}
 use Rattle.std.specs.Ordering.{nat_cmp}
 use Rattle.std.specs.BTreeSet.{insert_key}
 use Rattle.csn_cookie.specs.Csn.{CsnValue}
@@ -14,6 +14,11 @@ use Rattle.entry_writes.specs.State.{ascends, entry_at, found_weight, total_weig
 
 abbrev pub identities : List Entry → List ℕ
 identities entries = map (λ e. e.uuid) entries
+
+-- each identity is below those that follow
+abbrev pub rises : List ℕ → Bool
+rises [] = true
+rises (uuid ∷ uuids) = list_all (nat_lt uuid) uuids && rises uuids
 
 -- the numbers of both lists, ascending, each once, where the first list is so
 abbrev pub joined : List ℕ → List ℕ → List ℕ

@@ -1,5 +1,5 @@
 //! Changes of a list of attributes: edits, and those of a new RDN.
-ghost use Rattle.std.specs.Prelude.{◌≡◌, [], ◌∷◌, true, None, fold, not, IfOk, IfErr, OnOk};
+ghost use Rattle.std.specs.Prelude.{◌≡◌, [], ◌∷◌, true, None, fold, IfOk, IfErr, OnOk};
 ghost use Rattle.std.specs.List.{list_any, list_all};
 ghost use Rattle.dn_names.specs.Names.{same_pair, has_pair};
 ghost use Rattle.entry_writes.specs.Codes.{has_own_pairs};
@@ -14,7 +14,8 @@ use dn_names::{Dn, Pair, Rdn};
 use ldap_ber::{NoMemory, Octets, OctetsList};
 use ldap_constants::{ATTRIBUTE_OR_VALUE_EXISTS, NO_SUCH_ATTRIBUTE};
 use schema_rules::{
-    Attribute, AttributeType, Attrs, How, add_values, has_equal_values, keys_of, known_key,
+    Attribute, AttributeType, Attrs, How, add_values, has_equal_values, has_kind, keys_of,
+    known_key,
 };
 use std::alloc::Global;
 use std::slice::from_ref;
@@ -27,13 +28,6 @@ pub(crate) fn copies(alloc: Global, attributes: &[Attribute]) -> Result<Vec<Attr
         copied.push(attribute.copy()?)?;
     }
     Ok(copied)
-}
-
-/// Whether the type is there.
-fn has_kind(attributes: &[Attribute], kind: AttributeType) -> bool
-    ensures { result ≡ spec.has_kind attributes.now kind }
-{
-    attributes.iter().any(|attribute| attribute.kind == kind)
 }
 
 /// The keys of the values that are there of the type.

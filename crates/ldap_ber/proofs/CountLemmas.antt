@@ -33,8 +33,3 @@ pub count_ends : (count stop : ℕ) (bytes : List ℕ) → length bytes ≡ 0 �
 unfolding count_at
 count_ends count stop [] none = rw (many_none any_at stop) (ap (λ n. Ok n) (omega arith))
 count_ends count stop (b ∷ bytes) none = absurd (omega arith)
-
--- none are counted before
-pub counted_none : (read : Result ℕ BerFault) → counted_on 0 read ≡ read
-counted_none (Ok n) = let same : 0 + n ≡ n = omega arith in ap (λ m. Ok m) same
-counted_none (Err fault) = refl

@@ -69,6 +69,7 @@ pub element_cut : (stop tag : ℕ) (prefix more body : List ℕ) → Begins (pre
 unfolding element_at
 element_cut stop tag prefix more body h some = ap (placed stop prefix) (cut_goes prefix more tag body h some (parts_at prefix) refl)
 
+-- a proper prefix of an element is short, whatever tag is asked for
 pub expect_cut : (tag other stop : ℕ) (prefix more body : List ℕ) → Begins (prefix ++ more) other body [] → more ≢ [] → expect_at tag stop prefix ≡ Err (fault Short stop prefix)
 unfolding expect_at
 expect_cut tag other stop prefix more body h some = rw (element_cut stop other prefix more body h some) refl

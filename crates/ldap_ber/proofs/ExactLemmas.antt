@@ -21,6 +21,7 @@ pub record Exact {X E : Type 0} (R : Form X) (f : Reading E X) : Type 0 where
 abbrev pub Shortens : {X : Type 0} → Form X → Type 0
 Shortens {X} R = (bytes : List ℕ) (x : X) (rest : List ℕ) → R bytes x rest → length rest < length bytes
 
+-- a fault in other words is a fault still
 pub reworded_ok : {X E : Type 0} (reword : BerFault → E) (r : Result X BerFault) (x : X) → reworded reword r ≡ Ok x → r ≡ Ok x
 reworded_ok reword (Ok y) x h = ap (λ z. Ok z) (ok_is y x h)
 reworded_ok reword (Err f) x h = absurd cc
@@ -37,10 +38,12 @@ reworded_exact reword R f p = record {
 abbrev pub element_here : ℕ → ℕ → List ℕ → List ℕ → List ℕ → Element
 element_here tag stop bytes body rest = record { tag = tag; at = stop - length bytes; stop = stop - length rest; body = body }
 
+-- bytes that begin with an element are read as that element
 pub element_only : (stop : ℕ) (bytes : List ℕ) (tag : ℕ) (body rest : List ℕ) → Begins bytes tag body rest → element_at stop bytes ≡ Ok (element_here tag stop bytes body rest, rest)
 unfolding element_at
 element_only stop bytes tag body rest h = ap (placed stop bytes) (parts_only bytes tag body rest h)
 
+-- what is read with a tag stands first in the bytes
 pub expect_found : (tag stop : ℕ) (bytes : List ℕ) (e : Element) (rest : List ℕ) → expect_at tag stop bytes ≡ Ok (e, rest) → Begins bytes tag e.body rest
 unfolding expect_at
 expect_found tag stop bytes e rest h =
@@ -51,6 +54,7 @@ expect_found tag stop bytes e rest h =
     let i = element_found stop bytes b.0.0 b.0.1 b.1 in
     subst (λ (n : ℕ). Begins bytes n e.body rest) (ap (λ (y : Element). y.tag) (sym p.0) ∙ t) (subst (λ (y : Element). Begins bytes y.tag y.body rest) p.0 (subst (λ (y : List ℕ). Begins bytes b.0.0.tag b.0.0.body y) p.1 i))
 
+-- bytes that begin with an element of the tag are read as that element
 pub expect_only : (tag stop : ℕ) (bytes body rest : List ℕ) → Begins bytes tag body rest → expect_at tag stop bytes ≡ Ok (element_here tag stop bytes body rest, rest)
 unfolding expect_at
 expect_only tag stop bytes body rest h = rw (element_only stop bytes tag body rest h, eq-eqb tag tag refl) refl
@@ -219,10 +223,12 @@ many_in_found {X} R f p short (suc most) stop (b ∷ bytes) xs le h =
     let here : Many R (b ∷ bytes) (a.0.0 ∷ c.0) = (a.0.1, r, many_in_found R f p short most stop a.0.1 c.0 (omega arith) c.1) in
     subst (λ (ys : List X). Many R (b ∷ bytes) ys) (ok_is (a.0.0 ∷ c.0) xs c.2) here
 
+-- components that were read one after another stand in the bytes
 pub many_found : {X E : Type 0} (R : Form X) (f : Reading E X) → Exact R f → Shortens R → (stop : ℕ) (bytes : List ℕ) (xs : List X) → many_at f stop bytes ≡ Ok xs → Many R bytes xs
 unfolding many_at
 many_found R f p short stop bytes xs h = many_in_found R f p short (length bytes) stop bytes xs (omega arith) h
 
+-- bytes that are components one after another are read as these
 pub many_only : {X E : Type 0} (R : Form X) (f : Reading E X) → Exact R f → Shortens R → (stop : ℕ) (bytes : List ℕ) (xs : List X) → Many R bytes xs → many_at f stop bytes ≡ Ok xs
 many_only R f p short stop bytes [] h = rw h (many_none f stop)
 many_only R f p short stop [] (x ∷ xs) h = absurd (omega (arith, short [] x h.0 h.1))

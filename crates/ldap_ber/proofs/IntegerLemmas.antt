@@ -28,6 +28,7 @@ needless_is a b e =
           (rw (le-ltb b 128 s) (sym z), rw z refl)
     ]
 
+-- the shortest octets of a word stand for the same integer
 pub extended_shortest : (word : List ℕ) → length word ≤ 8 → extended (shortest word) ≡ extended word
 extended_shortest [] le = refl
 extended_shortest (a ∷ []) le = refl

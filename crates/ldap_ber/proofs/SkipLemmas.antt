@@ -9,6 +9,7 @@ use Rattle.ldap_ber.proofs.Steps.{bind_ok, ok_pair, triple_is}
 use Rattle.ldap_ber.proofs.ElementLemmas.{parts_found}
 use Rattle.ldap_ber.proofs.ManyLemmas.{Advances, many_next, many_none}
 
+-- an element that was read has its place, tag and body
 pub placed_ok : (stop : ℕ) (bytes : List ℕ) (r : Result (ℕ × List ℕ × List ℕ) BerKind) (e : Element) (rest : List ℕ) → placed stop bytes r ≡ Ok (e, rest) → (r ≡ Ok (e.tag, e.body, rest)) × (e.at ≡ stop - length bytes) × (e.stop ≡ stop - length rest)
 placed_ok stop bytes (Ok x) e rest h =
     let p = ok_pair (record { tag = x.0; at = stop - length bytes; stop = stop - length x.2; body = x.1 }) x.2 e rest h in (
@@ -27,6 +28,7 @@ element_found stop bytes e rest h = parts_found bytes e.tag e.body rest (placed_
 pub Begins-shorter : (bytes : List ℕ) (tag : ℕ) (body rest : List ℕ) → Begins bytes tag body rest → length rest < length bytes
 Begins-shorter bytes tag body rest h = omega (arith, ap (λ (x : List ℕ). length x) h.parts, length-append h.octets (body ++ rest), length-append body rest)
 
+-- reading an element passes over at least one byte
 pub any_advances : Advances any_at
 any_advances stop bytes x rest h =
     let b = bind_ok (element_at stop bytes) (λ e. Ok ((e.0.tag, e.0.body), e.1)) (x, rest) h in

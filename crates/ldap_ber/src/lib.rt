@@ -8,6 +8,7 @@
 mod dropping;
 mod fault;
 mod laws;
+mod middle;
 mod octets;
 mod reader;
 mod writer;

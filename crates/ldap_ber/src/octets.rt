@@ -5,8 +5,10 @@ ghost use Rattle.std.specs.Str.{bytes_eq};
 ghost use Rattle.ldap_ber.specs.Octets.{lists_eq};
 ghost use Rattle.ldap_ber.specs.Listed.{strings_of};
 
+use crate::middle::Middle;
 use std::alloc::{AllocError, Global};
 use std::marker::Model;
+use std::sync::Arc;
 use std::{mem, slice};
 
 /// Out of memory, as an error by itself.
@@ -14,6 +16,12 @@ pub type NoMemory = AllocError;
 
 /// The most octets that a string keeps in itself.
 const MOST_INSIDE: usize = 30;
+
+/// The most octets that copies share beside their number.
+const MOST_TOGETHER: usize = 63;
+
+/// The same in a larger piece of memory.
+const MOST_CLOSE: usize = 127;
 
 /// The octets of a short string, in front of others that say nothing.
 #[derive(Clone, Copy)]
@@ -27,11 +35,18 @@ struct Short {
 enum Kept {
     /// In the string itself.
     Inside(Short),
-    /// In memory of their own.
+    /// In memory that the string was made of.
     Apart(Vec<u8>),
+    /// In memory that copies of the string share, beside their number.
+    Together(Arc<Middle<MOST_TOGETHER>>),
+    /// The same in a larger piece.
+    Close(Arc<Middle<MOST_CLOSE>>),
+    /// In memory that copies of the string share.
+    Shared(Arc<Vec<u8>>),
 }
 
-/// An octet string that owns its bytes. It takes memory only where it has more than 30 octets.
+/// An octet string. It takes memory only where it has more than 30 octets, and then copies share
+/// them.
 pub struct Octets {
     kept: Kept,
 }
@@ -64,17 +79,35 @@ impl Octets {
         if bytes.len() <= MOST_INSIDE {
             return Ok(Octets::of_few(bytes));
         }
-        Octets::apart(alloc, bytes)
+        Octets::shared(alloc, bytes)
     }
 
-    /// A copy of many bytes, in memory of their own.
+    /// A copy of many bytes, in memory that copies of the string share.
     #[inline(never)]
-    fn apart(alloc: Global, bytes: &[u8]) -> Result<Octets, NoMemory>
+    fn shared(alloc: Global, bytes: &[u8]) -> Result<Octets, NoMemory>
         ensures { IfOk result (λ octets. octets ≡ bytes.now) }
     {
-        Ok(Octets {
-            kept: Kept::Apart(Vec::from_slice(alloc, bytes)?),
-        })
+        if bytes.len() <= MOST_TOGETHER {
+            let kept = Kept::Together(Middle::shared(alloc, bytes)?);
+            return Ok(Octets { kept });
+        }
+        if bytes.len() <= MOST_CLOSE {
+            let kept = Kept::Close(Middle::shared(alloc, bytes)?);
+            return Ok(Octets { kept });
+        }
+        Octets::of_many(alloc, Vec::from_slice(alloc, bytes)?)
+    }
+
+    /// The string of these bytes, which its copies share.
+    fn of_many(alloc: Global, bytes: Vec<u8>) -> Result<Octets, NoMemory>
+        ensures { IfOk result (λ octets. octets ≡ bytes.items) }
+    {
+        match Arc::new(alloc, bytes) {
+            Ok(long) => Ok(Octets {
+                kept: Kept::Shared(long),
+            }),
+            Err(_) => Err(AllocError),
+        }
     }
 
     /// A copy of few bytes, in the string itself.
@@ -100,10 +133,14 @@ impl Octets {
         match &self.kept {
             Kept::Inside(short) => &short.octets[..short.count as usize],
             Kept::Apart(bytes) => bytes.as_slice(),
+            Kept::Together(middle) => middle.as_slice(),
+            Kept::Close(middle) => middle.as_slice(),
+            Kept::Shared(long) => long.as_slice(),
         }
     }
 
-    /// Makes the same string a second time. It is `NoMemory` where memory runs out.
+    /// Makes the same string a second time. It is `NoMemory` where memory runs out, or where no
+    /// more copies can be counted.
     pub fn copy(&self) -> Result<Octets, NoMemory>
         ensures { IfOk result (λ octets. octets ≡ self.now) }
     {
@@ -112,6 +149,15 @@ impl Octets {
                 kept: Kept::Inside(*short),
             }),
             Kept::Apart(bytes) => Octets::from_slice(*bytes.allocator(), bytes.as_slice()),
+            Kept::Together(middle) => Ok(Octets {
+                kept: Kept::Together(middle.clone()?),
+            }),
+            Kept::Close(middle) => Ok(Octets {
+                kept: Kept::Close(middle.clone()?),
+            }),
+            Kept::Shared(long) => Ok(Octets {
+                kept: Kept::Shared(long.clone()?),
+            }),
         }
     }
 }

@@ -1,8 +1,8 @@
 //! Writing elements, each in its one canonical spelling.
 
-ghost use Rattle.std.specs.Prelude.{◌≡◌, ◌≢◌, ◌<◌, ◌≤◌, ◌+◌, ◌-◌, ◌^◌, [], ◌∷◌, ◌++◌, drop, length, reverse, set, take, IfNone, IfOk, IfSome, IsOk, OnOk, OnErr};
+ghost use Rattle.std.specs.Prelude.{◌≡◌, ◌≢◌, ◌<◌, ◌≤◌, ◌+◌, ◌-◌, ◌^◌, [], ◌∷◌, ◌++◌, drop, length, reverse, take, IfNone, IfSome, IsOk, OnOk, OnErr};
 ghost use Rattle.ldap_ber.specs.Canonical.{element, length_octets, is_needless, shortest, integer_octets, boolean_octets, flag_octets};
-ghost use Rattle.ldap_ber.specs.Unfinished.{assembled, body_of, ended, header_octets, AreBetween, Extends, HasBody};
+ghost use Rattle.ldap_ber.specs.Unfinished.{put_at, HasRoomFor};
 ghost use Rattle.ldap_ber.specs.Writer.{after_bytes, after_begin, after_end, before_begin, IsSmall, EndsSmall};
 
 use crate::octets::{NoMemory, Octets};
@@ -18,50 +18,40 @@ const LONGEST_HEADER: usize = 6;
 /// The octets of a tag and a length below 128.
 const SHORT_HEADER: usize = 2;
 
+/// The octets of a tag and a length from 256 to 65,535.
+const LONG_HEADER: usize = 4;
+
+/// How many elements in one another are expected to be long: a message, its operation, and the list
+/// in that.
+const LONG_LEVELS: usize = 3;
+
 /// How many elements in one another a writer has room for at first.
 const FIRST_LEVELS: usize = 8;
 
-/// How many octets of content a writer has room for at first.
-const FIRST_CONTENT: usize = 512;
+/// How many octets a writer has room for when the first element begins.
+const FIRST_OCTETS: usize = 512;
 
-/// The header of an element that holds others, and where the element starts in the content: with
-/// two octets that a short header takes, before its body. Until the element is ended the length
-/// says nothing.
-#[derive(Clone, Copy)]
-struct Header {
-    tag: u8,
-    start: usize,
-    length: usize,
-}
-
-/// An element that is not ended: its tag, where it starts in the content, the place of its header,
-/// and how many octets the headers that were ended before it have beyond two each.
+/// An element that is not ended: its tag, where it starts, and how many octets are left there for
+/// its header.
 #[derive(Clone, Copy)]
 struct Begun {
     tag: u8,
     start: usize,
-    place: usize,
-    octets: usize,
+    room: usize,
 }
 
 /// A writer of elements. After an `Err` it is as before; a body that is too long for four length
 /// octets is one too.
 ///
-/// How long an element is shows at its end alone. So each element that holds others starts with two
-/// octets that are written at its end where its length is below 128. A longer header is kept beside
-/// the content, and both are put together once, when the outermost element ends.
+/// How long an element is shows at its end alone. So each element that holds others starts with as
+/// many octets as its header is expected to have, and the header takes their place at its end. Only
+/// where it has fewer or more is the body moved, to the place after it.
 #[derive(Drop)]
 pub struct Writer {
-    /// What is written outside of the elements that are not ended.
-    done: Vec<u8>,
+    /// What is written, with room for the headers of the elements that are not ended.
+    out: Vec<u8>,
     /// The elements that are not ended, the outermost first.
     begun: Vec<Begun>,
-    /// The headers of these and of the longer ones in the outermost of them, in their order.
-    headers: Vec<Header>,
-    /// The outermost of these as far as it is written, with two octets for each of those headers.
-    content: Vec<u8>,
-    /// How many octets those headers whose elements are ended have beyond two each.
-    octets: usize,
 }
 
 impl Model for Writer {
@@ -71,11 +61,9 @@ impl Model for Writer {
 
     ghost Value = { Written };
 
-    ghost view = { λ w.
-        written (reverse w.begun.items) w.headers.items w.content.items w.done.items };
+    ghost view = { λ w. written (reverse w.begun.items) w.out.items };
 
-    ghost invariant = { λ w.
-        AreKept (reverse w.begun.items) w.headers.items w.content.items w.octets };
+    ghost invariant = { λ w. AreKept (reverse w.begun.items) w.out.items };
 }
 
 impl Writer {
@@ -84,11 +72,8 @@ impl Writer {
         ensures { result ≡ record { opened = []; bytes = [] } }
     {
         Writer {
-            done: Vec::new(alloc),
+            out: Vec::new(alloc),
             begun: Vec::new(alloc),
-            headers: Vec::new(alloc),
-            content: Vec::new(alloc),
-            octets: 0,
         }
     }
 
@@ -100,11 +85,7 @@ impl Writer {
         ensures small { OnOk result (IsSmall (element tag bytes.now)) }
         ensures err { OnErr result (self.new ≡ self.old) }
     {
-        if self.begun.is_empty() {
-            put(&mut self.done, tag, bytes)?;
-            return Ok(());
-        }
-        put(&mut self.content, tag, bytes)?;
+        put(&mut self.out, tag, bytes)?;
         Ok(())
     }
 
@@ -149,28 +130,48 @@ impl Writer {
         ensures ok { OnOk result (self.new ≡ after_begin self.old tag) }
         ensures err { OnErr result (self.new ≡ self.old) }
     {
-        let start = self.content.len();
-        let place = self.headers.len();
-        let octets = self.octets;
-        let (levels, room) = if self.begun.is_empty() {
-            (FIRST_LEVELS, FIRST_CONTENT)
+        if self.begun.len() < LONG_LEVELS {
+            return self.begin_long(tag);
+        }
+        self.begin_short(tag)
+    }
+
+    /// Opens an element that is expected to be long.
+    #[inline(never)]
+    fn begin_long(&mut self, tag: u8) -> Result<(), NoMemory>
+        ensures ok { OnOk result (self.new ≡ after_begin self.old tag) }
+        ensures err { OnErr result (self.new ≡ self.old) }
+    {
+        let start = self.out.len();
+        let (levels, octets) = if self.begun.is_empty() {
+            (FIRST_LEVELS, FIRST_OCTETS)
         } else {
-            (1, SHORT_HEADER)
+            (1, LONG_HEADER)
         };
         self.begun.reserve(levels)?;
-        self.headers.reserve(levels)?;
-        self.content.reserve(room)?;
-        self.content.extend_from_slice(&[tag, 0])?;
-        self.headers.push_reserved(Header {
-            tag,
-            start,
-            length: 0,
-        });
+        self.out.reserve(octets)?;
+        self.out.extend_from_slice(&[tag, 0, 0, 0])?;
         self.begun.push_reserved(Begun {
             tag,
             start,
-            place,
-            octets,
+            room: LONG_HEADER,
+        });
+        Ok(())
+    }
+
+    /// Opens an element that is expected to be short.
+    #[inline(always)]
+    fn begin_short(&mut self, tag: u8) -> Result<(), NoMemory>
+        ensures ok { OnOk result (self.new ≡ after_begin self.old tag) }
+        ensures err { OnErr result (self.new ≡ self.old) }
+    {
+        let start = self.out.len();
+        self.begun.reserve(1)?;
+        self.out.extend_from_slice(&[tag, 0])?;
+        self.begun.push_reserved(Begun {
+            tag,
+            start,
+            room: SHORT_HEADER,
         });
         Ok(())
     }
@@ -187,20 +188,7 @@ impl Writer {
         match innermost(&self.begun) {
             None => Ok(()),
             Some(last) => {
-                let count = body_length(&last, self.octets, self.content.len())?;
-                if self.begun.len() == 1 {
-                    put_whole(&mut self.done, &last, count, &self.headers, &self.content)?;
-                    self.drop_innermost();
-                    return Ok(());
-                }
-                if count < 128 && self.headers.len() == last.place + 1 {
-                    put_short_header(&mut self.content, &last, count);
-                    self.headers.truncate(last.place);
-                    self.octets = last.octets;
-                    self.begun.pop();
-                    return Ok(());
-                }
-                end_header(&mut self.headers, &mut self.octets, &last, count)?;
+                put_header_of(&mut self.out, &last)?;
                 self.begun.pop();
                 Ok(())
             }
@@ -233,9 +221,7 @@ impl Writer {
         ensures { self.new ≡ before_begin self.old }
     {
         if let Some(last) = self.begun.pop() {
-            self.headers.truncate(last.place);
-            self.content.truncate(last.start);
-            self.octets = last.octets;
+            self.out.truncate(last.start);
         }
     }
 
@@ -244,7 +230,7 @@ impl Writer {
         requires { self.opened ≡ [] }
         ensures { result ≡ self.bytes }
     {
-        Octets::from(self.done)
+        Octets::from(self.out)
     }
 }
 
@@ -260,133 +246,179 @@ fn innermost(begun: &[Begun]) -> Option<Begun>
     Some(begun[begun.len() - 1])
 }
 
-/// How long the body of the innermost element is, from the octets of the content and of the headers
-/// that are ended. It is `NoMemory` where its whole element would have 2^32 octets or more.
-fn body_length(last: &Begun, octets: usize, content: usize) -> Result<usize, NoMemory>
-    requires { last.now.start + 2 + last.now.octets ≤ content + octets }
-    ensures counted { IfOk result (λ count.
-        count + (last.now.start + 2 + last.now.octets) ≡ content + octets) }
-    ensures small { IfOk result (λ count. count ≤ 4294967289) }
+/// Puts the header of the innermost element in its place. It is `NoMemory` where memory runs out or
+/// the whole element would have 2^32 octets or more, and nothing changes.
+#[inline(always)]
+fn put_header_of(out: &mut Vec<u8>, last: &Begun) -> Result<(), NoMemory>
+    requires { last.now.start + last.now.room ≤ length out.old.items }
+    ensures ok { OnOk result (out.new.items ≡ take last.now.start out.old.items
+        ++ element last.now.tag (drop (last.now.start + last.now.room) out.old.items)) }
+    ensures small { OnOk result
+        (IsSmall (element last.now.tag (drop (last.now.start + last.now.room) out.old.items))) }
+    ensures err { OnErr result (out.new.items ≡ out.old.items) }
 {
-    let all = content.checked_add(octets).ok_or(AllocError)?;
-    let count = all - last.start - SHORT_HEADER - last.octets;
+    let count = out.len() - last.start - last.room;
     if LONGEST_BODY < count {
         return Err(AllocError);
     }
-    Ok(count)
-}
-
-/// Writes the tag and the length of the innermost element, where that is below 128, into the two
-/// octets that the element starts with.
-#[tactic(auto, using(crate::proofs::UnfinishedLemmas::two_set))]
-fn put_short_header(content: &mut Vec<u8>, last: &Begun, count: usize)
-    requires within { last.now.start + 2 ≤ length content.old.items }
-    requires short { count < 128 }
-    ensures { content.new.items ≡ take last.now.start content.old.items
-        ++ (last.now.tag ∷ count ∷ drop (last.now.start + 2) content.old.items) }
-{
-    content[last.start] = last.tag;
-    content[last.start + 1] = count as u8;
-}
-
-/// Gives the header of the innermost element its length. It is `NoMemory` where the octets of the
-/// headers cannot be counted, and nothing changes.
-#[inline(never)]
-fn end_header(
-    headers: &mut Vec<Header>,
-    octets: &mut usize,
-    last: &Begun,
-    count: usize,
-) -> Result<(), NoMemory>
-    requires { last.now.place < length headers.old.items }
-    ensures headers { OnOk result
-        (headers.new.items ≡ set headers.old.items last.now.place (ended last.now count)) }
-    ensures octets { OnOk result
-        (octets.new + 2 ≡ octets.old + length (header_octets (ended last.now count))) }
-    ensures err { OnErr result ((headers.new.items ≡ headers.old.items)
-        × (octets.new ≡ octets.old)) }
-{
-    let beyond = header_length(count) - SHORT_HEADER;
-    let more = octets.checked_add(beyond).ok_or(AllocError)?;
-    headers[last.place] = Header {
-        tag: last.tag,
-        start: last.start,
-        length: count,
-    };
-    *octets = more;
+    let wanted = header_length(count);
+    fit(out, last.start, last.room, wanted)?;
+    put_header_at(out, last.start, last.tag, count);
     Ok(())
 }
 
-/// Puts the innermost element at the end, whole. After an `Err` the bytes are as before.
-#[inline(never)]
-fn put_whole(
-    out: &mut Vec<u8>,
-    last: &Begun,
-    count: usize,
-    headers: &[Header],
-    content: &[u8],
-) -> Result<(), NoMemory>
-    requires { HasBody last.now count headers.now content.now }
-    ensures ok { OnOk result (out.new.items
-        ≡ out.old.items ++ element last.now.tag (body_of last.now headers.now content.now)) }
+/// Makes so much room for a header in the place of that which is there. It is `NoMemory` where
+/// memory runs out, and nothing changes.
+#[inline(always)]
+fn fit(out: &mut Vec<u8>, place: usize, room: usize, wanted: usize) -> Result<(), NoMemory>
+    requires { place + room ≤ length out.old.items }
+    ensures fitted { OnOk result (HasRoomFor place room out.old.items wanted out.new.items) }
     ensures err { OnErr result (out.new.items ≡ out.old.items) }
 {
-    let before = out.len();
-    if let Err(error) = put_parts_of_whole(out, last, count, headers, content) {
-        out.truncate(before);
-        return Err(error);
+    if wanted == room {
+        return Ok(());
     }
-    Ok(())
+    move_body(out, place, room, wanted)
 }
 
-/// Puts the innermost element at the end, whole. After an `Err` a part of it may be there.
-fn put_parts_of_whole(
-    out: &mut Vec<u8>,
-    last: &Begun,
-    count: usize,
-    headers: &[Header],
-    content: &[u8],
-) -> Result<(), NoMemory>
-    requires { HasBody last.now count headers.now content.now }
-    ensures ok { OnOk result (out.new.items
-        ≡ out.old.items ++ element last.now.tag (body_of last.now headers.now content.now)) }
-    ensures more { Extends out.old.items out.new.items }
+/// The same by moving what comes after it.
+#[inline(never)]
+fn move_body(out: &mut Vec<u8>, place: usize, room: usize, wanted: usize) -> Result<(), NoMemory>
+    requires { place + room ≤ length out.old.items }
+    ensures fitted { OnOk result (HasRoomFor place room out.old.items wanted out.new.items) }
+    ensures err { OnErr result (out.new.items ≡ out.old.items) }
 {
-    out.reserve(count + LONGEST_HEADER)?;
-    put_header(out, last.tag, count)?;
-    let end = content.len();
-    prove!(last.start < end);
-    prove!(last.start + 1 < end);
-    let (_, inner) = headers.split_at(last.place + 1);
-    put_assembled(out, last.start + SHORT_HEADER, inner, content)?;
-    Ok(())
+    if wanted < room {
+        narrow(out, place, room - wanted);
+        return Ok(());
+    }
+    widen(out, place, wanted - room)
 }
 
-/// Puts the content from a place on at the end, with the headers in their places. After an `Err` a
-/// part of it may be there.
-fn put_assembled(
-    out: &mut Vec<u8>,
-    start: usize,
-    headers: &[Header],
-    content: &[u8],
-) -> Result<(), NoMemory>
-    requires { AreBetween start (length content.now) headers.now }
+/// Takes n octets out at the place.
+fn narrow(out: &mut Vec<u8>, place: usize, count: usize)
+    requires { place + count ≤ length out.old.items }
+    ensures { out.new.items ≡ take place out.old.items ++ drop (place + count) out.old.items }
+{
+    if count == 0 {
+        return;
+    }
+    out.remove(place);
+    narrow(out, place, count - 1);
+}
+
+/// Puts n octets in at the place, which say nothing. It is `NoMemory` where memory runs out,
+/// and nothing changes.
+fn widen(out: &mut Vec<u8>, place: usize, count: usize) -> Result<(), NoMemory>
+    requires { place ≤ length out.old.items }
+    ensures fitted { OnOk result (HasRoomFor place 0 out.old.items count out.new.items) }
+    ensures err { OnErr result (out.new.items ≡ out.old.items) }
+{
+    if count == 0 {
+        return Ok(());
+    }
+    insert_octet(out, place)?;
+    match widen(out, place, count - 1) {
+        Ok(()) => Ok(()),
+        Err(error) => {
+            out.remove(place);
+            Err(error)
+        }
+    }
+}
+
+/// Puts one octet in at the place. It is `NoMemory` where memory runs out, and nothing changes.
+fn insert_octet(out: &mut Vec<u8>, place: usize) -> Result<(), NoMemory>
+    requires { place ≤ length out.old.items }
     ensures ok { OnOk result
-        (out.new.items ≡ out.old.items ++ assembled start headers.now content.now) }
-    ensures more { Extends out.old.items out.new.items }
+        (out.new.items ≡ take place out.old.items ++ 0 ∷ drop place out.old.items) }
+    ensures err { OnErr result (out.new.items ≡ out.old.items) }
 {
-    let end = content.len();
-    let mut from = start;
-    for header in headers {
-        out.extend_from_slice(&content[from..header.start])?;
-        put_header(out, header.tag, header.length)?;
-        prove!(header.start < end);
-        prove!(header.start + 1 < end);
-        from = header.start + SHORT_HEADER;
+    match out.insert(place, 0) {
+        Ok(()) => Ok(()),
+        Err(_) => Err(AllocError),
     }
-    let (_, rest) = content.split_at(from);
-    out.extend_from_slice(rest)?;
-    Ok(())
+}
+
+/// Puts the tag and the shortest length of an element in the place of as many octets.
+#[inline(always)]
+fn put_header_at(out: &mut Vec<u8>, place: usize, tag: u8, count: usize)
+    requires within { place + length (tag ∷ length_octets count) ≤ length out.old.items }
+    requires small { count < 2 ^ 32 }
+    ensures { out.new.items ≡ put_at out.old.items place (tag ∷ length_octets count) }
+{
+    if count < 128 {
+        put_two(out, place, tag, count as u8);
+        return;
+    }
+    put_long_header_at(out, place, tag, count);
+}
+
+/// The same of a length from 128 on.
+#[inline(never)]
+fn put_long_header_at(out: &mut Vec<u8>, place: usize, tag: u8, count: usize)
+    requires within { place + length (tag ∷ length_octets count) ≤ length out.old.items }
+    requires long { 128 ≤ count }
+    requires small { count < 2 ^ 32 }
+    ensures { out.new.items ≡ put_at out.old.items place (tag ∷ length_octets count) }
+{
+    if count < 256 {
+        put_octets(out, place, &[tag, 129, count as u8])
+    } else if count < 65_536 {
+        put_octets(
+            out,
+            place,
+            &[tag, 130, (count / 256) as u8, (count % 256) as u8],
+        )
+    } else if count < 16_777_216 {
+        put_octets(
+            out,
+            place,
+            &[
+                tag,
+                131,
+                (count / 65_536) as u8,
+                (count / 256 % 256) as u8,
+                (count % 256) as u8,
+            ],
+        )
+    } else {
+        put_octets(
+            out,
+            place,
+            &[
+                tag,
+                132,
+                (count / 16_777_216) as u8,
+                (count / 65_536 % 256) as u8,
+                (count / 256 % 256) as u8,
+                (count % 256) as u8,
+            ],
+        )
+    }
+}
+
+/// Puts both octets in the place of two.
+#[inline(always)]
+#[tactic(auto, using(crate::proofs::UnfinishedLemmas::two_set))]
+fn put_two(out: &mut Vec<u8>, place: usize, first: u8, second: u8)
+    requires { place + 2 ≤ length out.old.items }
+    ensures { out.new.items ≡ put_at out.old.items place (first ∷ second ∷ []) }
+{
+    out[place] = first;
+    out[place + 1] = second;
+}
+
+/// Puts the octets in the place of as many.
+fn put_octets(out: &mut Vec<u8>, place: usize, octets: &[u8])
+    requires { place + length octets.now ≤ length out.old.items }
+    ensures { out.new.items ≡ put_at out.old.items place octets.now }
+{
+    let mut next = place;
+    for octet in octets {
+        out[next] = *octet;
+        next += 1;
+    }
 }
 
 /// Puts an element at the end. After an `Err` the bytes are as before.

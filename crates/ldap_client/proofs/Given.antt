@@ -6,7 +6,7 @@ use Rattle.std.proofs.lemmas.List.{append-nil}
 use Rattle.ldap_messages.specs.Whole.{MessageValue, message_value}
 use Rattle.ldap_messages.specs.declared.message.Message.{Message}
 use Rattle.ldap_session.specs.Incoming.{Incoming, Arrived, Wrong, incoming_in, rest_of}
-use Rattle.ldap_client.specs.Clients.{Asks, ClientState, Gives, HasGiven, HasRead, IsNext, Reads, fresh}
+use Rattle.ldap_client.specs.Clients.{Asks, ClientState, GivesNext, HasGiven, HasRead, IsNext, Reads, fresh}
 use Rattle.ldap_client.specs.Links.{LinkState}
 use Rattle.ldap_client.specs.Messages.{BeginsWith, HasNoMessage, IsWrongAt}
 use Rattle.ldap_client.specs.declared.fault.ClientFault.{ClientFault}
@@ -67,8 +67,9 @@ given_kept first messages old new bytes so_far reads kept = record {
     longer : (after : List ℕ) → old.kept ++ (bytes ++ after) ≡ new.kept ++ after
     longer after = sym (append_assoc old.kept bytes after) ∙ ap (λ (left : List ℕ). left ++ after) (sym kept)
 
+-- a message that is given is the next one
 pub given_next : (first : LinkState) (messages : List MessageValue) (old new : ClientState) (message : Message)
-    → HasGiven first messages old → Gives old (Ok message) new → HasGiven first (messages ++ message_value message ∷ []) new
+    → HasGiven first messages old → GivesNext old (Ok message) new → HasGiven first (messages ++ message_value message ∷ []) new
 given_next first messages old new message so_far gives = given_more first messages old new gives.bytes (message_value message) so_far gives.reads gives.next
 
 -- a fault takes nothing of what was read
@@ -79,8 +80,9 @@ kept_at bytes before ReadFault new next = next.2
 kept_at bytes before NoMemory new next = next
 kept_at bytes before WriteFault new next = absurd next
 
+-- after a fault they are the same
 pub given_fault : (first : LinkState) (messages : List MessageValue) (old new : ClientState) (fault : ClientFault)
-    → HasGiven first messages old → Gives old (Err fault) new → HasGiven first messages new
+    → HasGiven first messages old → GivesNext old (Err fault) new → HasGiven first messages new
 given_fault first messages old new fault so_far gives =
     given_kept first messages old new gives.bytes so_far gives.reads (kept_at (old.kept ++ gives.bytes) old.link fault new gives.next)
 
@@ -98,6 +100,7 @@ given_asked first messages octets old new result so_far asks = record {
 
 -- ---- all bytes that were read
 
+-- what was given, and what is kept, are all messages of what was read
 pub all_read : (first : LinkState) (messages : List MessageValue) (now : ClientState) → HasGiven first messages now → HasRead first now.link (map Arrived messages ++ incoming_in now.kept)
 all_read first messages now so_far = record {
   bytes = so_far.bytes;
@@ -111,15 +114,17 @@ read_as : (first : LinkState) (messages : List MessageValue) (now : ClientState)
     → HasRead first now.link (map Arrived messages ++ later)
 read_as first messages now later so_far is = subst (λ (more : List Incoming). HasRead first now.link (map Arrived messages ++ more)) is (all_read first messages now so_far)
 
+-- after them stands what is refused
 pub read_refused : (first : LinkState) (messages : List MessageValue) (old new : ClientState) (place : ℕ)
-    → HasGiven first messages old → Gives old (Err (PeerMessage place)) new → HasRead first new.link (map Arrived messages ++ Wrong place ∷ [])
+    → HasGiven first messages old → GivesNext old (Err (PeerMessage place)) new → HasRead first new.link (map Arrived messages ++ Wrong place ∷ [])
 read_refused first messages old new place so_far gives =
     let wrong : IsWrongAt new.kept place = subst (λ (kept : List ℕ). IsWrongAt kept place) (sym gives.next.1) gives.next.0 in
     read_as first messages new (Wrong place ∷ []) (given_fault first messages old new (PeerMessage place) so_far gives)
     (ap incoming_in (sym (append-nil new.kept)) ∙ wrong [])
 
+-- and nothing, where the input ended
 pub read_ended : (first : LinkState) (messages : List MessageValue) (old new : ClientState)
-    → HasGiven first messages old → Gives old (Err EndOfInput) new → HasRead first new.link (map Arrived messages) × IsAtEnd new.link.left
+    → HasGiven first messages old → GivesNext old (Err EndOfInput) new → HasRead first new.link (map Arrived messages) × IsAtEnd new.link.left
 read_ended first messages old new so_far gives =
     let none : HasNoMessage new.kept = subst HasNoMessage (sym gives.next.2) gives.next.0 in (
       subst (λ (all : List Incoming). HasRead first new.link all) (append-nil (map Arrived messages))

@@ -3,6 +3,5 @@ pub mod Messages
 pub mod Waiting
 pub mod Given
 pub mod Taking
-pub mod Sides
 pub mod RoundSteps
 pub mod Asking

@@ -25,6 +25,7 @@ begins_with bytes whole count is = record {
 pub refused_at : (bytes : List ℕ) (place : ℕ) → read_of bytes ≡ refused place → IsWrongAt bytes place
 refused_at bytes place is after = incoming_refused (bytes ++ after) place (read_stays bytes after (λ e. absurd cc) ∙ is)
 
+-- a frame that announces too many octets is wrong at its first byte
 pub too_long : (bytes : List ℕ) → read_of bytes ≡ long → IsWrongAt bytes 0
 too_long bytes is after = incoming_long (bytes ++ after) (read_stays bytes after (λ e. absurd cc) ∙ is)
 

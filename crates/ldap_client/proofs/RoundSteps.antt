@@ -62,6 +62,7 @@ round_by old mid new NoMemory bytes link none nothing kept why = (nothing, kept)
 round_by old mid new WriteFault bytes link none nothing kept why = absurd why
 round_by old mid new (PeerMessage place) bytes link none nothing kept why = absurd why
 
+-- a read that failed is the fault of the round
 pub round_fault : (old mid new : ClientState) (fault : ClientFault) → mid.link ≡ old.link → mid.kept ≡ old.kept → mid.fault ≡ old.fault → read_of old.kept ≡ partial
     → ReadsMore mid (Err fault) new → GoesRound old (Err fault) new
 round_fault old mid new fault link kept same none r = record {

@@ -1,7 +1,6 @@
 -- What is taken of the bytes that were read.
-use Rattle.std.proofs.Common.{◌≡◌, ℕ, ◌+◌, List, [], drop, Option, Some, None, Ok, Err, refl, sym, subst}
+use Rattle.std.proofs.Common.{◌≡◌, ℕ, ◌+◌, List, drop, Some, Ok, Err, refl, subst}
 use Rattle.std.proofs.lemmas.List.{drop-drop}
-use Rattle.std.specs.Io.KnownBytes.{Consumes, Keeps}
 use Rattle.ldap_messages.specs.Frame.{HasMeaning, message, read_of}
 use Rattle.ldap_messages.specs.Whole.{message_value}
 use Rattle.ldap_messages.specs.declared.fault.MessageFault.{MessageFault}
@@ -22,9 +21,3 @@ pub takes_fault : (bytes : List ℕ) (fault : MessageFault) → HasMeaning (Err 
 takes_fault bytes (BadMessage place) is = (refused_at bytes place is, refl)
 takes_fault bytes TooLong is = (too_long bytes is, refl)
 takes_fault bytes NoMemory is = refl
-
--- a read that brought nothing
-pub keeps_none : (before left : Option (List ℕ)) → Keeps before left → Consumes before left []
-keeps_none None left h = h
-keeps_none (Some xs) None h = h
-keeps_none (Some xs) (Some ys) h = sym h

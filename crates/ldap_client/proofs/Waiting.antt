@@ -1,5 +1,5 @@
 -- A client that waits for a message: what it has read meanwhile.
-use Rattle.std.proofs.Common.{◌≡◌, ◌⊎◌, ◌≤◌, ℕ, List, [], ◌++◌, Option, Some, None, Result, Ok, Err, inl, inr, refl, sym, ap, subst, ◌∙◌, append_assoc, arith}
+use Rattle.std.proofs.Common.{◌≡◌, ◌⊎◌, ℕ, List, [], ◌++◌, Option, Some, None, Result, Ok, Err, inl, inr, refl, sym, ap, subst, ◌∙◌, append_assoc, arith}
 use Rattle.std.specs.Io.KnownBytes.{Appends, Consumes}
 use Rattle.std.proofs.KnownBytes.{Appends-nil, Appends-trans, Consumes-nil, Consumes-trans}
 use Rattle.std.proofs.lemmas.List.{append-nil}
@@ -7,8 +7,8 @@ use Rattle.ldap_messages.specs.Frame.{partial, read_of}
 use Rattle.ldap_messages.specs.Whole.{message_value}
 use Rattle.ldap_messages.specs.declared.message.Message.{Message}
 use Rattle.ldap_session.proofs.Streams.{incoming_none}
-use Rattle.sync_io.specs.Faults.{CountHasRisen}
-use Rattle.ldap_client.specs.Clients.{ClientState, Gives, IsNext, Reads, fault_after}
+use Rattle.sync_io.proofs.Sides.{rose_later}
+use Rattle.ldap_client.specs.Clients.{ClientState, GivesNext, IsNext, Reads, fault_after}
 use Rattle.ldap_client.specs.Links.{LinkState}
 use Rattle.ldap_client.specs.Messages.{BeginsWith, HasNoMessage, IsWrongAt}
 use Rattle.ldap_client.specs.Rounds.{GoesRound, IsRound}
@@ -21,14 +21,17 @@ pub none_by : (fault : Option ClientFault) → ((f : ClientFault) → fault ≡ 
 none_by None none = refl
 none_by (Some f) none = absurd (none f refl)
 
+-- what is not there is not this fault
 pub never : (fault : Option ClientFault) (f : ClientFault) → fault ≡ None → fault ≡ Some f → ⊥
 never fault f none some = let wrong : None ≡ Some f = sym none ∙ some in cc
 
+-- a fault is one fault
 pub same_fault : (fault : Option ClientFault) (one other : ClientFault) → fault ≡ Some one → fault ≡ Some other → one ≡ other
 same_fault fault one other is also = let both : Some one ≡ Some other = sym is ∙ also in cc
 
 -- ---- reads
 
+-- at first nothing is read
 pub reads_nothing : (link : LinkState) → Reads link [] link
 reads_nothing link = record {
   taken = Consumes-nil link.left;
@@ -38,6 +41,7 @@ reads_nothing link = record {
   write_faults = refl;
 }
 
+-- what is read after other bytes is read together with them
 pub reads_then : (first between last : LinkState) (xs ys : List ℕ) → Reads first xs between → Reads between ys last → Reads first (xs ++ ys) last
 reads_then first between last xs ys one other = record {
   taken = Consumes-trans first.left between.left last.left xs ys one.taken other.taken;
@@ -62,6 +66,7 @@ pub record Waiting (first now : ClientState) : Type 0 where
   pub kept : now.kept ≡ first.kept ++ bytes
   pub fault : now.fault ≡ None
 
+-- at first nothing has come
 pub waiting_none : (first : ClientState) → first.fault ≡ None → Waiting first first
 waiting_none first live = record {
   bytes = [];
@@ -83,7 +88,7 @@ waiting_on first mid now so_far r = record {
 
 -- the round that ends the waiting
 pub waited : (first mid now : ClientState) (result : Result Message ClientFault) (bytes : List ℕ) → (so_far : Waiting first mid) → Reads mid.link bytes now.link → bytes ≡ []
-    → IsNext (first.kept ++ so_far.bytes) first.link result now → (mid.fault ≡ None → now.fault ≡ fault_after result) → Gives first result now
+    → IsNext (first.kept ++ so_far.bytes) first.link result now → (mid.fault ≡ None → now.fault ≡ fault_after result) → GivesNext first result now
 waited first mid now result bytes so_far reads none next fault = record {
   bytes = so_far.bytes;
   reads = reads_no_more first.link mid.link now.link so_far.bytes bytes so_far.reads reads none;
@@ -93,14 +98,11 @@ waited first mid now result bytes so_far reads none next fault = record {
 }
 
 -- a message came
-pub gave_message : (first mid now : ClientState) (message : Message) → Waiting first mid → GoesRound mid (Ok (Some message)) now → Gives first (Ok message) now
+pub gave_message : (first mid now : ClientState) (message : Message) → Waiting first mid → GoesRound mid (Ok (Some message)) now → GivesNext first (Ok message) now
 gave_message first mid now message so_far r =
     waited first mid now (Ok message) r.bytes so_far r.reads r.round.0
     (subst (λ (kept : List ℕ). BeginsWith kept (message_value message) now.kept) so_far.kept r.round.1)
     r.fault
-
-rose_later : (first before now : ℕ) → first ≤ before → CountHasRisen before now → CountHasRisen first now
-rose_later first before now later rose = omega (arith, later, rose)
 
 -- nothing more came
 next_of : (first mid now : ClientState) (fault : ClientFault) (so_far : Waiting first mid) (bytes : List ℕ) → IsRound mid.kept bytes mid.link (Err fault) now
@@ -114,7 +116,8 @@ next_of first mid now ReadFault so_far bytes r =
 next_of first mid now NoMemory so_far bytes r = (r.1 ∙ so_far.kept, r.0)
 next_of first mid now WriteFault so_far bytes r = absurd r
 
-pub gave_fault : (first mid now : ClientState) (fault : ClientFault) → Waiting first mid → GoesRound mid (Err fault) now → Gives first (Err fault) now
+-- a fault of a round is the client's
+pub gave_fault : (first mid now : ClientState) (fault : ClientFault) → Waiting first mid → GoesRound mid (Err fault) now → GivesNext first (Err fault) now
 gave_fault first mid now fault so_far r =
     let next = next_of first mid now fault so_far r.bytes r.round in
     waited first mid now (Err fault) r.bytes so_far r.reads next.1 next.0 r.fault

@@ -95,7 +95,7 @@ pub record Reads (old : LinkState) (bytes : List ℕ) (new : LinkState) : Type 0
 
 -- A client that answers no fault is asked for the next message. It reads only where it keeps none
 -- that is whole, and nothing that is refused.
-pub record Gives (old : ClientState) (result : Result Message ClientFault) (new : ClientState)
+pub record GivesNext (old : ClientState) (result : Result Message ClientFault) (new : ClientState)
     : Type 0 where
   pub bytes : List ℕ
   pub reads : Reads old.link bytes new.link

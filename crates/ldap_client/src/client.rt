@@ -1,7 +1,7 @@
 //! A client of a link.
 
 ghost use Rattle.std.specs.Prelude.{◌≡◌, None, Some, Err, IfErr, IfOk};
-ghost use Rattle.ldap_client.specs.Clients.{Asks, Gives, client_by, fresh};
+ghost use Rattle.ldap_client.specs.Clients.{Asks, GivesNext, client_by, fresh};
 ghost use Rattle.ldap_client.specs.Links.{link_by};
 ghost use Rattle.ldap_client.specs.Rounds.{GoesRound, ReadsMore};
 ghost use Rattle.ldap_client.specs.declared.fault.ClientFault.{ClientFault};
@@ -43,7 +43,7 @@ impl<L: Link> Client<L> {
         })
     }
 
-    /// Gives the link back.
+    /// GivesNext the link back.
     pub fn into_link(self) -> L
         ensures { result ≡ self.link }
     {
@@ -55,8 +55,8 @@ impl<L: Link> Client<L> {
         link
     }
 
-    /// Writes a message in its canonical spelling. It is `WriteFault` where the link counts one more
-    /// failed write, and `NoMemory`, and then nothing was written.
+    /// Writes a message in its canonical spelling. It is `WriteFault` where the link counts one
+    /// more failed write, and `NoMemory`, and then nothing was written.
     pub fn ask(&mut self, message: &Message) -> Result<(), ClientFault>
         requires { HasSpelling (message_value message.now) }
         ensures again { (fault : ClientFault) → self.old.fault ≡ Some fault
@@ -79,7 +79,7 @@ impl<L: Link> Client<L> {
         Err(ClientFault::WriteFault)
     }
 
-    /// Gives the next message. It is `PeerMessage` where what stands in its place is refused
+    /// GivesNext the next message. It is `PeerMessage` where what stands in its place is refused
     /// (RFC 4511, section 5.1), `EndOfInput` where the link was read to its end and no message is
     /// left, `ReadFault` where the link counts one more failed read, and `NoMemory`, which leaves
     /// what was read to the next call. On a link that waits it may wait.
@@ -89,7 +89,7 @@ impl<L: Link> Client<L> {
         ensures gives { let state = link_by L.bytes_left L.bytes_read L.bytes_held
             L.read_fault_count L.write_fault_count in
             self.old.fault ≡ None
-            → Gives (client_by state self.old) result (client_by state self.new) }
+            → GivesNext (client_by state self.old) result (client_by state self.new) }
     {
         if let Some(fault) = self.fault {
             return Err(fault);

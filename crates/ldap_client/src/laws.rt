@@ -2,7 +2,7 @@
 
 ghost use Rattle.std.specs.Prelude.{ℕ, List, [], ◌∷◌, ◌++◌, map, Result, Ok, Err};
 ghost use Rattle.std.specs.Io.KnownBytes.{IsAtEnd};
-ghost use Rattle.ldap_client.specs.Clients.{Asks, ClientState, Gives, HasGiven, HasRead, fresh};
+ghost use Rattle.ldap_client.specs.Clients.{Asks, ClientState, GivesNext, HasGiven, HasRead, fresh};
 ghost use Rattle.ldap_client.specs.Links.{LinkState};
 ghost use Rattle.ldap_client.specs.declared.fault.ClientFault.{ClientFault};
 ghost use Rattle.ldap_client.specs.declared.fault.ClientFault.TheVariants.{PeerMessage, EndOfInput};
@@ -21,20 +21,20 @@ pub fn messages_are_given_in_order()
         → HasGiven first messages new }
     ensures next { (first : LinkState) (messages : List MessageValue)
         (old new : ClientState) (message : Message)
-        → HasGiven first messages old → Gives old (Ok message) new
+        → HasGiven first messages old → GivesNext old (Ok message) new
         → HasGiven first (messages ++ message_value message ∷ []) new }
     ensures fault { (first : LinkState) (messages : List MessageValue)
         (old new : ClientState) (fault : ClientFault)
-        → HasGiven first messages old → Gives old (Err fault) new
+        → HasGiven first messages old → GivesNext old (Err fault) new
         → HasGiven first messages new }
     ensures read { (first : LinkState) (messages : List MessageValue) (now : ClientState)
         → HasGiven first messages now
         → HasRead first now.link (map Arrived messages ++ incoming_in now.kept) }
     ensures refused { (first : LinkState) (messages : List MessageValue)
         (old new : ClientState) (place : ℕ)
-        → HasGiven first messages old → Gives old (Err (PeerMessage place)) new
+        → HasGiven first messages old → GivesNext old (Err (PeerMessage place)) new
         → HasRead first new.link (map Arrived messages ++ Wrong place ∷ []) }
     ensures ended { (first : LinkState) (messages : List MessageValue) (old new : ClientState)
-        → HasGiven first messages old → Gives old (Err EndOfInput) new
+        → HasGiven first messages old → GivesNext old (Err EndOfInput) new
         → HasRead first new.link (map Arrived messages) × IsAtEnd new.link.left }
 {}

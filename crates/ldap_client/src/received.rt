@@ -1,13 +1,13 @@
 //! Bytes that were read, of which the first were given as messages.
 
-ghost use Rattle.std.specs.Prelude.{◌≡◌, ◌≤◌, ◌+◌, ◌++◌, ℕ, List, [], drop, length, vec_capacity, vec_len, Ok, IfOk, OnOk};
+ghost use Rattle.std.specs.Prelude.{◌≡◌, ◌≤◌, ◌+◌, ◌++◌, ℕ, List, [], length, vec_capacity, vec_len, Ok, IfOk, OnOk};
 ghost use Rattle.std.specs.Io.KnownBytes.{Appends, Consumes, IsAtEnd};
 ghost use Rattle.sync_io.specs.Faults.{CountHasRisen};
 
 use ldap_ber::NoMemory;
 use ldap_messages::{Message, MessageFault};
 use std::alloc::{AllocError, Global};
-use sync_io::{Piece, Source};
+use sync_io::{Piece, Source, keep_rest};
 
 /// How many bytes one read takes at most.
 const PIECE: usize = 65_536;
@@ -112,17 +112,4 @@ impl Received {
             Piece::Failed => Ok(Piece::Failed),
         }
     }
-}
-
-/// Keeps what follows the first n bytes.
-fn keep_rest(bytes: &mut Vec<u8>, count: usize)
-    requires { count ≤ vec_len bytes.old }
-    ensures { bytes.new.items ≡ drop count bytes.old.items }
-{
-    if count == 0 {
-        return;
-    }
-    let len = bytes.len();
-    bytes.copy_within(count..len, 0);
-    bytes.truncate(len - count);
 }

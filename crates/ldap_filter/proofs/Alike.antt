@@ -1,13 +1,12 @@
 -- Filters that match have one truth on any attributes.
 use Rattle.std.proofs.Common.{◌≡◌, ℕ, true, false, ◌&&◌, Option, Some, None, List, ◌∷◌, refl, ap, ◌∙◌}
-use Rattle.std.specs.Prelude.{position}
 use Rattle.std.specs.Option.{option_eq}
-use Rattle.std.specs.Str.{bytes_eq, str_eq_ignore_ascii_case, str_to_ascii_lowercase}
+use Rattle.std.specs.Str.{bytes_eq, str_eq_ignore_ascii_case}
 use Rattle.std.proofs.lemmas.Bool.{and_parts}
 use Rattle.std.proofs.lemmas.Slice.Eq.{bytes_eq-Decides, slice_eq-Decides}
 use Rattle.ldap_ber.specs.Octets.{lists_eq}
-use Rattle.schema_rules.specs.Schema.{TypeRow, types, type_named}
 use Rattle.schema_rules.specs.declared.attributes.Attribute.{Attribute}
+use Rattle.schema_rules.proofs.Tables.{type_named-alike}
 use Rattle.ldap_filter.specs.Matching.{asked_type, equal_test, at_least_test, at_most_test, substrings_test}
 use Rattle.ldap_filter.specs.Same.{same_item, same_pieces, same_tree, same_trees}
 use Rattle.ldap_filter.specs.FilterTree.{FilterTree, Trees, all_of, any_of, negated, equal, substrings, at_least, at_most, present, approx, extensible, no_trees, more_trees}
@@ -15,13 +14,8 @@ use Rattle.ldap_filter.specs.Truth.{conjunction, disjunction, opposite, item_tru
 
 -- ---- filters
 
-type_as : (one other : List ℕ) → str_eq_ignore_ascii_case one other ≡ true → type_named one ≡ type_named other
-unfolding type_named
-type_as one other same =
-    ap (λ l. position (λ (row : TypeRow). bytes_eq (str_to_ascii_lowercase row.name) l) types) ((bytes_eq-Decides (str_to_ascii_lowercase one) (str_to_ascii_lowercase other)).0 same)
-
 asked_as : (one other : List ℕ) → str_eq_ignore_ascii_case one other ≡ true → asked_type one ≡ asked_type other
-asked_as one other same = rw (type_as one other same) refl
+asked_as one other same = rw (type_named-alike one other same) refl
 
 bytes_as : (one other : List ℕ) → bytes_eq one other ≡ true → one ≡ other
 bytes_as one other same = (bytes_eq-Decides one other).0 same

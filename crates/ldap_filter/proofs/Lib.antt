@@ -1,6 +1,8 @@
 -- Lemmas over plain variables.
 pub mod Alike
 pub mod After
+pub mod Equalities
+pub mod FilterDepths
 pub mod Keys
 pub mod Lists
 pub mod Many

@@ -8,6 +8,7 @@ use Rattle.ldap_filter.specs.Same.{same_trees}
 use Rattle.ldap_filter.specs.Writing.{are_bytes}
 use Rattle.ldap_filter.specs.FilterTree.{no_trees, tree_of, trees}
 
+-- a test of all passes with one element more that passes
 pub list_all_next : {X : Type 0} (p : X → Bool) (xs : List X) (i : ℕ) (x : X) → i < length xs → x ≡ get_or xs i x
     → list_all p (take i xs) ≡ true → p x ≡ true → list_all p (take (i + 1) xs) ≡ true
 list_all_next p xs i x low at before here =

@@ -18,6 +18,7 @@ here : {X : Type 0} (begins : List ℕ → Bool) (f : Reading X) (prefix : List 
     → with_prefix (prefix ++ x ∷ []) (many_in begins f m stop rest) ≡ with_prefix prefix (many_in begins f (suc m) stop bytes)
 here begins f prefix m stop bytes x rest goes gives = rw (goes, gives) (prefix_more prefix x (many_in begins f m stop rest))
 
+-- a value that was read stands after those before it
 pub many_goes_on : {X : Type 0} (begins : List ℕ → Bool) (f : Reading X) (prefix : List X) (most more stop : ℕ) (bytes : List ℕ) (x : X) (rest : List ℕ)
     → most ≡ suc more → begins bytes ≡ true → f stop bytes ≡ Ok (x, rest)
     → with_prefix (prefix ++ x ∷ []) (many_in begins f more stop rest) ≡ with_prefix prefix (many_in begins f most stop bytes)

@@ -8,7 +8,7 @@ use Rattle.ldap_filter.specs.declared.fault.FilterFault.{FilterFault}
 use Rattle.ldap_filter.specs.Grammar.{is_type_byte, all_type_bytes, is_type, begins_with}
 use Rattle.ldap_filter.specs.Pieces.{has_piece}
 use Rattle.ldap_filter.specs.Reading.{◌>>=◌, Reading, refused, past, many_in, many_at, value_goes_on, starred_at, stars_at, type_at, compared_at, made, filled, asserted, equal_at, item_of, item_at, filters_at, component_at, enclosed_at, filter_in}
-use Rattle.ldap_filter.specs.FilterTree.{FilterTree, Trees, all_of, any_of, negated, equal, substrings, at_least, at_most, present, approx, extensible, no_trees, more_trees, trees, depth, deepest}
+use Rattle.ldap_filter.specs.FilterTree.{FilterTree, Trees, all_of, any_of, negated, equal, substrings, at_least, at_most, present, approx, extensible, no_trees, more_trees, trees, listed, depth, deepest}
 use Rattle.ldap_filter.specs.Writing.{is_filled, is_absent_or_filled, are_filled, has_substrings_text, has_text, have_texts, are_bytes, is_absent_or_bytes, are_sound_pieces, is_sound, are_sound, value_text, end_text, middle_text, enclosed, substrings_text, text_of, texts_of}
 use Rattle.ldap_filter.proofs.Values.{joined, many_stops, many_one, value_read}
 use Rattle.ldap_ber.proofs.Lists.{list_all-push}
@@ -199,11 +199,8 @@ pieces_read levels stop name initial middle last rest text sound =
 
 -- ---- filters
 
-abbrev pub listed : Trees → List FilterTree
-listed no_trees = []
-listed (more_trees t ts) = t ∷ listed ts
-
-trees_listed : (ts : Trees) → trees (listed ts) ≡ ts
+-- trees are those of their list
+pub trees_listed : (ts : Trees) → trees (listed ts) ≡ ts
 trees_listed no_trees = refl
 trees_listed (more_trees t ts) = ap (λ (us : Trees). more_trees t us) (trees_listed ts)
 
@@ -255,6 +252,7 @@ unfolding filters_at many_at
 group_read ts levels stop rest text each = each (length (texts_of ts ++ rest)) (omega (arith, texts_length ts text, length-append (texts_of ts) rest))
 
 mutual
+  -- the text of a filter is read as that filter, whatever follows
   pub filter_read : (t : FilterTree) (levels stop : ℕ) (rest : List ℕ) → has_text t ≡ true → is_sound t ≡ true → depth t ≤ levels
       → filter_in levels stop (text_of t ++ rest) ≡ Ok (t, rest)
   filter_read t zero stop rest text sound within = absurd (omega (arith, depth_some t))

@@ -14,6 +14,7 @@ use Rattle.ldap_filter.proofs.Values.{joined}
 pub whole_text : (bytes : List ℕ) → IsUtf8 bytes → length bytes ≡ utf8_valid_len bytes
 whole_text bytes text = sym (utf8_valid_len-IsUtf8 bytes text)
 
+-- the part of bytes that is UTF-8 is no longer than they are
 pub text_within : (bytes : List ℕ) → utf8_valid_len bytes ≤ length bytes
 text_within bytes = utf8_valid_len_le bytes
 
@@ -38,6 +39,7 @@ ascii_one : (c : ℕ) → c < 128 → (i : ℕ) → get_or (c ∷ []) i 0 < 128
 ascii_one c small zero = small
 ascii_one c small (suc i) = omega arith
 
+-- a byte of ASCII before UTF-8 is UTF-8
 pub utf8_cons : (c : ℕ) (bytes : List ℕ) → c < 128 → IsUtf8 bytes → IsUtf8 (c ∷ bytes)
 utf8_cons c bytes small text = IsUtf8-append (c ∷ []) bytes (IsUtf8-from_ascii (c ∷ []) (ascii_one c small)) text
 

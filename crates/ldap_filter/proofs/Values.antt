@@ -6,6 +6,7 @@ use Rattle.ldap_filter.specs.Grammar.{is_special, hex_value}
 use Rattle.ldap_filter.specs.Reading.{Reading, many_in, many_at, value_goes_on, value_byte_at, hex_at, escaped_at, value_at}
 use Rattle.ldap_filter.specs.Writing.{hex_digit, escape, text_byte, value_text_after, value_text, are_bytes}
 
+-- lists are joined in any grouping
 pub joined : (a b c : List ℕ) → (a ++ b) ++ c ≡ a ++ (b ++ c)
 joined a b c = simp append_assoc
 
@@ -82,6 +83,7 @@ first_by : (n b : ℕ) (bs : List ℕ) (test : Bool) → b < 256
 first_by n b bs true small = (escape b, 0, inl (small, refl), refl)
 first_by n b bs false small = (text_byte b, n - 1, text_unit_by b (is_special b) refl small, refl)
 
+-- the first byte of a value is written as itself or as an escape
 pub first_unit : (known b : ℕ) (bs : List ℕ) → b < 256 → Written b bs (value_text_after known (b ∷ bs))
 first_unit known b bs small =
     let n = if known == 0 then utf8_valid_len (b ∷ bs) else known in first_by n b bs (n == 0) small
@@ -91,6 +93,7 @@ pub many_stops : {X : Type 0} (begins : List ℕ → Bool) (f : Reading X) (most
 many_stops begins f zero stop rest ends = refl
 many_stops begins f (suc most) stop rest ends = rw ends refl
 
+-- one value that was read and others are all of them
 pub many_one : {X : Type 0} (begins : List ℕ → Bool) (f : Reading X) (most stop : ℕ) (bytes : List ℕ) (x : X) (more : List ℕ) (xs : List X) (rest : List ℕ)
     → begins bytes ≡ true → f stop bytes ≡ Ok (x, more) → many_in begins f most stop more ≡ Ok (xs, rest)
     → many_in begins f (suc most) stop bytes ≡ Ok (x ∷ xs, rest)

@@ -27,6 +27,10 @@ abbrev pub trees : List FilterTree → Trees
 trees [] = no_trees
 trees (t ∷ ts) = more_trees t (trees ts)
 
+abbrev pub listed : Trees → List FilterTree
+listed no_trees = []
+listed (more_trees t ts) = t ∷ listed ts
+
 -- one filter, with the tree of each part in its place
 abbrev pub tree_step : Filter-F FilterTree (List FilterTree) → FilterTree
 tree_step (open'.And parts) = all_of (trees parts)

@@ -2,6 +2,7 @@
 use Rattle.std.specs.Prelude.{ℕ, Bool, true, false, ◌&&◌, ◌==◌, if◌then◌else◌, List, [], ◌∷◌, Option, Some, None}
 use Rattle.std.specs.List.{list_any}
 use Rattle.schema_rules.specs.declared.attributes.Attribute.{Attribute}
+use Rattle.schema_rules.specs.Attributes.{has_kind}
 use Rattle.ldap_filter.specs.declared.truth.Truth.{Truth}
 use Rattle.ldap_filter.specs.declared.truth.Truth.TheVariants.{True, False, Undefined}
 use Rattle.ldap_filter.specs.declared.matching.Test.{Test}
@@ -47,10 +48,6 @@ abbrev pub decided : Bool → Truth
 decided true = True
 decided false = False
 
--- the entry has a value of the type
-abbrev pub has_type : List Attribute → ℕ → Bool
-has_type attributes kind = list_any (λ a. a.kind == kind) attributes
-
 -- some value of the type passes the test
 abbrev pub has_match : List Attribute → ℕ → Test → Bool
 has_match attributes kind test =
@@ -68,7 +65,7 @@ item_truth attributes (Some kind) test_of = tried attributes kind (test_of kind)
 
 abbrev pub presence : List Attribute → Option ℕ → Truth
 presence attributes None = Undefined
-presence attributes (Some kind) = decided (has_type attributes kind)
+presence attributes (Some kind) = decided (has_kind attributes kind)
 
 abbrev mutual
   pub truth_on : List Attribute → FilterTree → Truth

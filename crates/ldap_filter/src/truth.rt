@@ -9,7 +9,7 @@ use crate::matching::{
     Test, asked_type, at_least_test, at_most_test, equal_test, has_match, substrings_test,
 };
 use ldap_ber::{NoMemory, Octets};
-use schema_rules::{Attribute, AttributeType, Attrs};
+use schema_rules::{Attribute, AttributeType, Attrs, has_kind};
 use std::alloc::Global;
 
 /// What a filter says of an entry. Undefined selects nothing.
@@ -175,7 +175,7 @@ fn presence_on(attributes: &[Attribute], name: &Octets) -> Truth
 {
     match asked_type(name.as_slice()) {
         None => Truth::Undefined,
-        Some(kind) => Truth::decided(has_type(attributes, kind)),
+        Some(kind) => Truth::decided(has_kind(attributes, kind)),
     }
 }
 
@@ -192,10 +192,4 @@ fn tried_on(
         None => Ok(Truth::Undefined),
         Some(test) => Ok(Truth::decided(has_match(alloc, attributes, kind, &test)?)),
     }
-}
-
-fn has_type(attributes: &[Attribute], kind: AttributeType) -> bool
-    ensures { result ≡ spec.has_type attributes.now kind }
-{
-    attributes.iter().any(|attribute| attribute.kind == kind)
 }

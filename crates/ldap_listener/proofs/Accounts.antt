@@ -1,5 +1,5 @@
 -- Seats, one of which changes, and the accounts of the links.
-use Rattle.std.proofs.Common.{◌≡◌, ◌≢◌, ℕ, zero, suc, ◌+◌, ◌<◌, ◌≤◌, true, false, List, [], ◌∷◌, ◌++◌, length, get_or, set, Option, Some, None, refl, sym, ap, ◌∙◌, subst, arith, append_assoc, length-append, add_assoc, add-zero}
+use Rattle.std.proofs.Common.{◌≡◌, ℕ, zero, suc, ◌+◌, ◌<◌, ◌≤◌, true, false, List, [], ◌∷◌, ◌++◌, length, get_or, set, Option, Some, None, refl, sym, ap, ◌∙◌, subst, arith, append_assoc, length-append, add_assoc, add-zero}
 use Rattle.std.proofs.lemmas.List.{get_or-set_same, set-set, length-set}
 use Rattle.std.specs.List.{AllZip}
 use Rattle.std.specs.Prelude.{IfSome, IsSome, option_map}
@@ -11,7 +11,7 @@ use Rattle.sync_io.specs.Net.{Served, accepts, releases}
 use Rattle.sync_provider.specs.Ports.{PortState}
 use Rattle.shared_directory.specs.Passes.{DirectoryView, IsUpToDate, port_of}
 use Rattle.ldap_session.specs.declared.access.Access.{Access}
-use Rattle.ldap_listener.specs.Seats.{AccountsForMore, AllCounted, AllFree, AllSeated, AreAccountedFor, AreInOrder, HasRoom, IsCounted, IsFree, IsFreeAt, IsReported, IsSeated, IsServed, KeepsAccounts, SeatState, busy, busy_count, counts, free, vacant}
+use Rattle.ldap_listener.specs.Seats.{AcceptsLinks, AccountsForMore, AllCounted, AllFree, AllSeated, AreAccountedFor, AreInOrder, HasRoom, IsCounted, IsFreeAt, IsReported, IsSeated, IsServed, KeepsAccounts, ConnectionSeat, busy, busy_count, counts, free, vacant}
 use Rattle.ldap_listener.specs.Sessions.{Chain, HasServed, IsFresh, LinkView, ServedSession, sessions_of}
 use Rattle.ldap_listener.proofs.Chains.{chain-more, sessions-else, sessions-own}
 
@@ -25,83 +25,85 @@ served-more R (l ∷ ls) (t ∷ ts) link s all one = (all.0, served-more R ls ts
 -- ---- seats
 
 -- as many seats have numbers where one of them changes
-numbered-set : {L : Type 0} (seats : List (SeatState L)) (i : ℕ) (s : SeatState L) (sessions : List (ℕ × ServedSession))
+numbered-set : {L : Type 0} (seats : List (ConnectionSeat L)) (i : ℕ) (s : ConnectionSeat L) (sessions : List (ℕ × ServedSession))
     → Every (λ (t : ℕ × ServedSession). IsNumber (length seats) t.0) sessions → Every (λ (t : ℕ × ServedSession). IsNumber (length (set seats i s)) t.0) sessions
 numbered-set seats i s sessions all = subst (λ n. Every (λ (t : ℕ × ServedSession). IsNumber n t.0) sessions) (sym (length-set seats i s)) all
 
 module _ {L : Type 0} where
-  pub busy-set : (seats : List (SeatState L)) (i : ℕ) (s d : SeatState L) → i < length seats
+  -- how many seats are busy after one of them changes
+  pub busy-set : (seats : List (ConnectionSeat L)) (i : ℕ) (s d : ConnectionSeat L) → i < length seats
       → busy_count (set seats i s) + counts (get_or seats i d) ≡ busy_count seats + counts s
   busy-set [] i s d low = absurd (omega (arith, low))
   busy-set (t ∷ ts) zero s d low = omega arith
   busy-set (t ∷ ts) (suc i) s d low = let more = busy-set ts i s d (omega (arith, low)) in omega (arith, more)
 
-  busy-some : (seats : List (SeatState L)) (i : ℕ) (d : SeatState L) → i < length seats → counts (get_or seats i d) ≤ busy_count seats
+  busy-some : (seats : List (ConnectionSeat L)) (i : ℕ) (d : ConnectionSeat L) → i < length seats → counts (get_or seats i d) ≤ busy_count seats
   busy-some [] i d low = absurd (omega (arith, low))
   busy-some (t ∷ ts) zero d low = omega arith
   busy-some (t ∷ ts) (suc i) d low = let more = busy-some ts i d (omega (arith, low)) in omega (arith, more)
 
   -- no connection is served where all seats are free
-  pub busy-free : (seats : List (SeatState L)) → AllFree seats → busy_count seats ≡ 0
+  pub busy-free : (seats : List (ConnectionSeat L)) → AllFree seats → busy_count seats ≡ 0
   busy-free [] all = refl
   busy-free (free c view ∷ ts) all = let rest = busy-free ts all.1 in omega (arith, rest)
   busy-free (busy c view access link ∷ ts) all = absurd (let wrong : false ≡ true = all.0 in cc)
   busy-free (vacant ∷ ts) all = absurd (let wrong : false ≡ true = all.0 in cc)
 
-  pub seated-at : (cell : TableId) (seats : List (SeatState L)) (i : ℕ) (d : SeatState L) → i < length seats → AllSeated cell seats → IsSeated cell (get_or seats i d)
+  -- each seat has a pass of the directory
+  pub seated-at : (cell : TableId) (seats : List (ConnectionSeat L)) (i : ℕ) (d : ConnectionSeat L) → i < length seats → AllSeated cell seats → IsSeated cell (get_or seats i d)
   seated-at cell [] i d low all = absurd (omega (arith, low))
   seated-at cell (t ∷ ts) zero d low all = all.0
   seated-at cell (t ∷ ts) (suc i) d low all = seated-at cell ts i d (omega (arith, low)) all.1
 
-  pub seated-set : (cell : TableId) (seats : List (SeatState L)) (i : ℕ) (s : SeatState L) → AllSeated cell seats → IsSeated cell s → AllSeated cell (set seats i s)
+  -- so it has after one of them changes
+  pub seated-set : (cell : TableId) (seats : List (ConnectionSeat L)) (i : ℕ) (s : ConnectionSeat L) → AllSeated cell seats → IsSeated cell s → AllSeated cell (set seats i s)
   seated-set cell [] i s all one = all
   seated-set cell (t ∷ ts) zero s all one = (one, all.1)
   seated-set cell (t ∷ ts) (suc i) s all one = (all.0, seated-set cell ts i s all.1 one)
 
-  pub free-here : (seats : List (SeatState L)) (i : ℕ) (c : TableId) (view : DirectoryView) → i < length seats → IsFreeAt (set seats i (free c view)) i
+  -- a seat that was freed is free
+  pub free-here : (seats : List (ConnectionSeat L)) (i : ℕ) (c : TableId) (view : DirectoryView) → i < length seats → IsFreeAt (set seats i (free c view)) i
   free-here seats i c view low = rw (get_or-set_same seats i (free c view) vacant low) refl
 
-  pub free-kept : (seats : List (SeatState L)) (i k : ℕ) (c : TableId) (view : DirectoryView) → IsFreeAt seats k → IsFreeAt (set seats i (free c view)) k
+  -- and those that were free stay so
+  pub free-kept : (seats : List (ConnectionSeat L)) (i k : ℕ) (c : TableId) (view : DirectoryView) → IsFreeAt seats k → IsFreeAt (set seats i (free c view)) k
   free-kept [] i k c view at = at
   free-kept (t ∷ ts) zero zero c view at = refl
   free-kept (t ∷ ts) zero (suc k) c view at = at
   free-kept (t ∷ ts) (suc i) zero c view at = at
   free-kept (t ∷ ts) (suc i) (suc k) c view at = free-kept ts i k c view at
 
-  -- a seat that is not busy is free
-  pub free-else : (cell : TableId) (t : SeatState L) → IsSeated cell t → ((c : TableId) (view : DirectoryView) (access : Access) (link : L) → t ≢ busy c view access link) → IsFree t
-  free-else cell (free c view) seated other = refl
-  free-else cell (busy c view access link) seated other = absurd (other c view access link refl)
-  free-else cell vacant seated other = absurd seated
-
-  pub all-free : (seats : List (SeatState L)) → ((k : ℕ) → k < length seats → IsFreeAt seats k) → AllFree seats
+  -- where the seat at each place is free, all are
+  pub all-free : (seats : List (ConnectionSeat L)) → ((k : ℕ) → k < length seats → IsFreeAt seats k) → AllFree seats
   all-free [] each = tt
   all-free (t ∷ ts) each = (each 0 (omega arith), all-free ts (λ k low. each (suc k) (omega (arith, low))))
 
 -- ---- the seat at a place
 
-pub record IsBusyAt {L : Type 0} (seats : List (SeatState L)) (i : ℕ) (c : TableId) (view : DirectoryView) (access : Access) (link : L) : Type 0 where
+pub record IsBusyAt {L : Type 0} (seats : List (ConnectionSeat L)) (i : ℕ) (c : TableId) (view : DirectoryView) (access : Access) (link : L) : Type 0 where
   pub low : i < length seats
-  pub other : SeatState L
+  pub other : ConnectionSeat L
   pub at : get_or seats i other ≡ busy c view access link
 
-pub record HasFree {L : Type 0} (seats : List (SeatState L)) (i : ℕ) (c : TableId) (view : DirectoryView) : Type 0 where
+pub record HasFree {L : Type 0} (seats : List (ConnectionSeat L)) (i : ℕ) (c : TableId) (view : DirectoryView) : Type 0 where
   pub low : i < length seats
-  pub other : SeatState L
+  pub other : ConnectionSeat L
   pub at : get_or seats i other ≡ free c view
 
 module _ {L : Type 0} where
-  pub busy-seated : (cell : TableId) (seats : List (SeatState L)) (i : ℕ) (c : TableId) (view : DirectoryView) (access : Access) (link : L)
+  -- the pass of a busy seat is one of the directory, and up to date
+  pub busy-seated : (cell : TableId) (seats : List (ConnectionSeat L)) (i : ℕ) (c : TableId) (view : DirectoryView) (access : Access) (link : L)
       → IsBusyAt seats i c view access link → AllSeated cell seats → (c ≡ cell) × IsUpToDate view
   busy-seated cell seats i c view access link there seated = subst (IsSeated cell) there.at (seated-at cell seats i there.other there.low seated)
 
-  pub free-seated : (cell : TableId) (seats : List (SeatState L)) (i : ℕ) (c : TableId) (view : DirectoryView)
+  -- so is that of a free seat
+  pub free-seated : (cell : TableId) (seats : List (ConnectionSeat L)) (i : ℕ) (c : TableId) (view : DirectoryView)
       → HasFree seats i c view → AllSeated cell seats → (c ≡ cell) × IsUpToDate view
   free-seated cell seats i c view there seated = subst (IsSeated cell) there.at (seated-at cell seats i there.other there.low seated)
 
 module _ {L C M : Type 0} where
   -- there is room for the link of a connection that is served
-  pub room-release : (net : Option (Served L C M)) (seats : List (SeatState L)) (i : ℕ) (c : TableId) (view : DirectoryView) (access : Access) (link : L)
+  pub room-release : (net : Option (Served L C M)) (seats : List (ConnectionSeat L)) (i : ℕ) (c : TableId) (view : DirectoryView) (access : Access) (link : L)
       → IsBusyAt seats i c view access link → HasRoom net seats → IfSome net (λ s. length s.released < s.accepted)
   room-release None seats i c view access link there room = tt
   room-release (Some s) seats i c view access link there room =
@@ -109,7 +111,9 @@ module _ {L C M : Type 0} where
       let one : counts (get_or seats i there.other) ≡ 1 = ap counts there.at in
       omega (arith, some, one, room)
 
-  pub room-freed : (net : Option (Served L C M)) (seats : List (SeatState L)) (i : ℕ) (c c' : TableId) (view view' : DirectoryView) (access : Access) (link link' : L)
+  -- after a link is released, and its seat is free, as many can be released as connections are
+  -- served
+  pub room-freed : (net : Option (Served L C M)) (seats : List (ConnectionSeat L)) (i : ℕ) (c c' : TableId) (view view' : DirectoryView) (access : Access) (link link' : L)
       → IsBusyAt seats i c view access link → HasRoom net seats → HasRoom (option_map (releases link') net) (set seats i (free c' view'))
   room-freed None seats i c c' view view' access link link' there room = tt
   room-freed (Some s) seats i c c' view view' access link link' there room =
@@ -117,7 +121,8 @@ module _ {L C M : Type 0} where
       let one : counts (get_or seats i there.other) ≡ 1 = ap counts there.at in
       omega (arith, length-append s.released (link' ∷ []), moved, one, room)
 
-  pub room-taken : (net : Option (Served L C M)) (seats : List (SeatState L)) (i : ℕ) (c : TableId) (view : DirectoryView) (access : Access) (link : L)
+  -- so they can after one is accepted, and has a seat
+  pub room-taken : (net : Option (Served L C M)) (seats : List (ConnectionSeat L)) (i : ℕ) (c : TableId) (view : DirectoryView) (access : Access) (link : L)
       → HasFree seats i c view → HasRoom net seats → HasRoom (option_map (accepts true) net) (set seats i (busy c view access link))
   room-taken None seats i c view access link there room = tt
   room-taken (Some s) seats i c view access link there room =
@@ -128,7 +133,7 @@ module _ {L C M : Type 0} where
 -- ---- what became of the links
 
 module _ {L : Type 0} (v : LinkView L) (access : Access) (Reports : Type 0) (first : ℕ → PortState) where
-  counted-at : (sessions : List (ℕ × ServedSession)) (number : ℕ) (seats : List (SeatState L)) (i : ℕ) (d : SeatState L) → i < length seats
+  counted-at : (sessions : List (ℕ × ServedSession)) (number : ℕ) (seats : List (ConnectionSeat L)) (i : ℕ) (d : ConnectionSeat L) → i < length seats
       → AllCounted v access Reports first sessions number seats
       → IsCounted v access Reports (first (number + i)) (sessions_of (number + i) sessions) (get_or seats i d)
   counted-at sessions number [] i d low all = absurd (omega (arith, low))
@@ -139,7 +144,7 @@ module _ {L : Type 0} (v : LinkView L) (access : Access) (Reports : Type 0) (fir
       let P : ℕ → Type 0 = λ n. IsCounted v access Reports (first n) (sessions_of n sessions) (get_or ts i d) in
       subst P (omega arith) (counted-at sessions (suc number) ts i d (omega (arith, low)) all.1)
 
-  counted-set : (sessions : List (ℕ × ServedSession)) (number : ℕ) (seats : List (SeatState L)) (i : ℕ) (s : SeatState L)
+  counted-set : (sessions : List (ℕ × ServedSession)) (number : ℕ) (seats : List (ConnectionSeat L)) (i : ℕ) (s : ConnectionSeat L)
       → AllCounted v access Reports first sessions number seats → IsCounted v access Reports (first (number + i)) (sessions_of (number + i) sessions) s
       → AllCounted v access Reports first sessions number (set seats i s)
   counted-set sessions number [] i s all one = all
@@ -151,7 +156,7 @@ module _ {L : Type 0} (v : LinkView L) (access : Access) (Reports : Type 0) (fir
       (all.0, counted-set sessions (suc number) ts i s all.1 (subst P (omega arith) one))
 
   -- a session of another number changes nothing of a seat
-  counted-else : (sessions : List (ℕ × ServedSession)) (s : ServedSession) (other number : ℕ) (seats : List (SeatState L)) → other < number
+  counted-else : (sessions : List (ℕ × ServedSession)) (s : ServedSession) (other number : ℕ) (seats : List (ConnectionSeat L)) → other < number
       → AllCounted v access Reports first sessions number seats → AllCounted v access Reports first (sessions ++ (other, s) ∷ []) number seats
   counted-else sessions s other number [] low all = all
   counted-else sessions s other number (t ∷ ts) low all = (
@@ -160,7 +165,7 @@ module _ {L : Type 0} (v : LinkView L) (access : Access) (Reports : Type 0) (fir
   )
 
   -- the session of the seat at place i, which changes
-  counted-step : (sessions : List (ℕ × ServedSession)) (s : ServedSession) (number : ℕ) (seats : List (SeatState L)) (i : ℕ) (new : SeatState L)
+  counted-step : (sessions : List (ℕ × ServedSession)) (s : ServedSession) (number : ℕ) (seats : List (ConnectionSeat L)) (i : ℕ) (new : ConnectionSeat L)
       → AllCounted v access Reports first sessions number seats
       → IsCounted v access Reports (first (number + i)) (sessions_of (number + i) (sessions ++ (number + i, s) ∷ [])) new
       → AllCounted v access Reports first (sessions ++ (number + i, s) ∷ []) number (set seats i new)
@@ -184,18 +189,18 @@ module _ {L : Type 0} (v : LinkView L) (access : Access) (Reports : Type 0) (fir
 module _ {L C M : Type 0} (v : LinkView L) (access : Access) where
   reported-more : (before : Option (Served L C M)) (n : ℕ) (now : Option (Served L C M)) (links : List L) (link : L)
       → IsReported before n now links → IsReported before n (option_map (releases link) now) (links ++ link ∷ [])
-  reported-more None n now links link r = tt
+  reported-more None n now links link r = ap (λ (s : Option (Served L C M)). option_map (releases link) s) r
   reported-more (Some b) n None links link r = absurd r
-  reported-more (Some b) n (Some now) links link r = (r.0, r.1, ap (λ xs. xs ++ link ∷ []) r.2 ∙ append_assoc b.released links (link ∷ []))
+  reported-more (Some b) n (Some now) links link r = (r.0, r.1, ap (λ xs. xs ++ link ∷ []) r.2 ∙ append_assoc b.released links (link ∷ []), record { callers = r.3.callers; retired = r.3.retired; gone = r.3.gone; to_come = r.3.to_come })
 
   reported-taken : (before : Option (Served L C M)) (n : ℕ) (now : Option (Served L C M)) (links : List L)
       → IsReported before n now links → IsReported before (n + 1) (option_map (accepts true) now) links
-  reported-taken None n now links r = tt
+  reported-taken None n now links r = ap (λ (s : Option (Served L C M)). option_map (accepts true) s) r
   reported-taken (Some b) n None links r = absurd r
-  reported-taken (Some b) n (Some now) links r = (r.0, ap (λ a. a + 1) r.1 ∙ add_assoc b.accepted n 1, r.2)
+  reported-taken (Some b) n (Some now) links r = (r.0, ap (λ a. a + 1) r.1 ∙ add_assoc b.accepted n 1, r.2, record { callers = r.3.callers; retired = r.3.retired; gone = r.3.gone; to_come = r.3.to_come })
 
   -- a connection is over: its seat becomes free, and its link is released
-  frees-own : (net : Option (Served L C M)) (seats : List (SeatState L)) (i : ℕ) (c c' : TableId) (view view' : DirectoryView) (link link' : L)
+  frees-own : (net : Option (Served L C M)) (seats : List (ConnectionSeat L)) (i : ℕ) (c c' : TableId) (view view' : DirectoryView) (link link' : L)
       → IsBusyAt seats i c view access link → HasServed v access (port_of view) link (port_of view') link'
       → AccountsForMore v access 0 net seats (option_map (releases link') net) (set seats i (free c' view'))
   frees-own net seats i c c' view view' link link' there (s, serving) first before n accounts =
@@ -223,7 +228,7 @@ module _ {L C M : Type 0} (v : LinkView L) (access : Access) where
       }
 
   -- the same where the seat says who may write, as the accounts do
-  pub frees : (net : Option (Served L C M)) (seats : List (SeatState L)) (i : ℕ) (c c' : TableId) (view view' : DirectoryView) (given : Access) (link link' : L)
+  pub frees : (net : Option (Served L C M)) (seats : List (ConnectionSeat L)) (i : ℕ) (c c' : TableId) (view view' : DirectoryView) (given : Access) (link link' : L)
       → IsBusyAt seats i c view given link → HasServed v given (port_of view) link (port_of view') link'
       → AccountsForMore v access 0 net seats (option_map (releases link') net) (set seats i (free c' view'))
   frees net seats i c c' view view' given link link' there served first before n accounts =
@@ -234,7 +239,7 @@ module _ {L C M : Type 0} (v : LinkView L) (access : Access) where
       (subst (λ a. HasServed v a (port_of view) link (port_of view') link') was.1 served) first before n accounts
 
   -- a link is accepted: a seat that was free is taken
-  pub takes : (net : Option (Served L C M)) (seats : List (SeatState L)) (i : ℕ) (c : TableId) (view : DirectoryView) (link : L)
+  pub takes : (net : Option (Served L C M)) (seats : List (ConnectionSeat L)) (i : ℕ) (c : TableId) (view : DirectoryView) (link : L)
       → HasFree seats i c view → IfSome net (λ _. IsFresh v link)
       → AccountsForMore v access 1 net seats (option_map (accepts true) net) (set seats i (busy c view access link))
   takes net seats i c view link there fresh first before n accounts =
@@ -262,17 +267,19 @@ module _ {L C M : Type 0} (v : LinkView L) (access : Access) where
       fresh-where (Some b) n (Some now) links r f some = f
 
   -- two steps in a row, and none
-  pub accounts-then : (k m : ℕ) (a b c : Option (Served L C M)) (s t u : List (SeatState L))
+  pub accounts-then : (k m : ℕ) (a b c : Option (Served L C M)) (s t u : List (ConnectionSeat L))
       → AccountsForMore v access k a s b t → AccountsForMore v access m b t c u → AccountsForMore v access (k + m) a s c u
   accounts-then k m a b c s t u one later first before n accounts =
       let P : ℕ → Type 0 = λ x. AreAccountedFor v access first before x c u in
       subst P (add_assoc n k m) (later first before (n + k) (one first before n accounts))
 
-  pub accounts-none : (a : Option (Served L C M)) (s : List (SeatState L)) → AccountsForMore v access 0 a s a s
+  -- where nothing happens, no link has to be accounted for
+  pub accounts-none : (a : Option (Served L C M)) (s : List (ConnectionSeat L)) → AccountsForMore v access 0 a s a s
   accounts-none a s first before n accounts =
       let P : ℕ → Type 0 = λ x. AreAccountedFor v access first before x a s in
       subst P (sym (add-zero n)) accounts
 
+-- what holds of what there is holds beside a fact that holds anyway
 pub both-some : {A : Type 0} (o : Option A) (P Q : Type 0) → IfSome o (λ _. P) → Q → IfSome o (λ _. P × Q)
 both-some None P Q p q = tt
 both-some (Some a) P Q p q = (p, q)
@@ -283,6 +290,7 @@ pub fresh_is : {L A : Type 0} (v : LinkView L) (link : L) (o : Option A) (parts 
 fresh_is v link None parts = tt
 fresh_is v link (Some a) parts = record { unused = parts.0; sound = parts.1 }
 
+-- a call by which no link came leaves the net as it was
 pub accepts-none : {L C M : Type 0} (net : Option (Served L C M)) → option_map (accepts false) net ≡ net
 accepts-none None = refl
 accepts-none (Some s) = refl
@@ -291,12 +299,12 @@ accepts-none (Some s) = refl
 
 module _ {L C M : Type 0} (v : LinkView L) (access : Access) (cell : TableId) where
   -- no link was accepted
-  pub keeps-none : (net : Option (Served L C M)) (seats : List (SeatState L))
+  pub keeps-none : (net : Option (Served L C M)) (seats : List (ConnectionSeat L))
       → AreInOrder cell net seats → KeepsAccounts v access cell 0 net seats net seats
   keeps-none net seats order = record { order = order; accounts = accounts-none v access net seats }
 
   -- two steps in a row
-  pub keeps-then : (k m : ℕ) (a b c : Option (Served L C M)) (s t u : List (SeatState L))
+  pub keeps-then : (k m : ℕ) (a b c : Option (Served L C M)) (s t u : List (ConnectionSeat L))
       → KeepsAccounts v access cell k a s b t → KeepsAccounts v access cell m b t c u → KeepsAccounts v access cell (k + m) a s c u
   keeps-then k m a b c s t u one later = record {
     order = later.order;
@@ -304,13 +312,22 @@ module _ {L C M : Type 0} (v : LinkView L) (access : Access) (cell : TableId) wh
   }
 
   -- in the second step no link was accepted
-  pub keeps-still : (k : ℕ) (a b c : Option (Served L C M)) (s t u : List (SeatState L))
+  pub keeps-still : (k : ℕ) (a b c : Option (Served L C M)) (s t u : List (ConnectionSeat L))
       → KeepsAccounts v access cell k a s b t → KeepsAccounts v access cell 0 b t c u → KeepsAccounts v access cell k a s c u
   keeps-still k a b c s t u one later =
       subst (λ n. KeepsAccounts v access cell n a s c u) (add-zero k) (keeps-then k 0 a b c s t u one later)
 
+  -- the same of a number of links of which something is known
+  pub accepts-still : (IsKnown : ℕ → Type 0) (a b c : Option (Served L C M)) (s t u : List (ConnectionSeat L))
+      → AcceptsLinks v access cell IsKnown a s b t → KeepsAccounts v access cell 0 b t c u → AcceptsLinks v access cell IsKnown a s c u
+  accepts-still IsKnown a b c s t u one later = record {
+    count = one.count;
+    known = one.known;
+    keeps = keeps-still one.count a b c s t u one.keeps later;
+  }
+
   -- a connection is over: its seat becomes free, and its link is released
-  pub keeps-freed : (net : Option (Served L C M)) (seats : List (SeatState L)) (i : ℕ) (c c' : TableId) (view view' : DirectoryView) (given : Access) (link link' : L)
+  pub keeps-freed : (net : Option (Served L C M)) (seats : List (ConnectionSeat L)) (i : ℕ) (c c' : TableId) (view view' : DirectoryView) (given : Access) (link link' : L)
       → IsBusyAt seats i c view given link → AreInOrder cell net seats → (c' ≡ c) × IsUpToDate view' → HasServed v given (port_of view) link (port_of view') link'
       → KeepsAccounts v access cell 0 net seats (option_map (releases link') net) (set seats i (free c' view'))
   keeps-freed net seats i c c' view view' given link link' there order same served =
@@ -324,7 +341,7 @@ module _ {L C M : Type 0} (v : LinkView L) (access : Access) (cell : TableId) wh
       }
 
   -- a link is accepted: a seat that was free is taken
-  pub keeps-taken : (net : Option (Served L C M)) (seats : List (SeatState L)) (i : ℕ) (c : TableId) (view : DirectoryView) (link : L)
+  pub keeps-taken : (net : Option (Served L C M)) (seats : List (ConnectionSeat L)) (i : ℕ) (c : TableId) (view : DirectoryView) (link : L)
       → HasFree seats i c view → AreInOrder cell net seats → IfSome net (λ _. IsFresh v link)
       → KeepsAccounts v access cell 1 net seats (option_map (accepts true) net) (set seats i (busy c view access link))
   keeps-taken net seats i c view link there order fresh =
@@ -338,12 +355,12 @@ module _ {L C M : Type 0} (v : LinkView L) (access : Access) (cell : TableId) wh
       }
 
   -- the acceptor serves a link itself: its seat is taken and becomes free
-  pub keeps-served : (net : Option (Served L C M)) (seats : List (SeatState L)) (i : ℕ) (c c' : TableId) (view view' : DirectoryView) (link link' : L)
+  pub keeps-served : (net : Option (Served L C M)) (seats : List (ConnectionSeat L)) (i : ℕ) (c c' : TableId) (view view' : DirectoryView) (link link' : L)
       → HasFree seats i c view → AreInOrder cell net seats → IfSome net (λ _. IsFresh v link) → (c' ≡ c) × IsUpToDate view'
       → HasServed v access (port_of view) link (port_of view') link'
       → KeepsAccounts v access cell 1 net seats (option_map (releases link') (option_map (accepts true) net)) (set seats i (free c' view'))
   keeps-served net seats i c c' view view' link link' there order fresh same served =
-      let mid : List (SeatState L) = set seats i (busy c view access link) in
+      let mid : List (ConnectionSeat L) = set seats i (busy c view access link) in
       let twice : set mid i (free c' view') ≡ set seats i (free c' view') = set-set seats i (busy c view access link) (free c' view') in
       let taken : IsBusyAt mid i c view access link = record {
         low = omega (arith, length-set seats i (busy c view access link), there.low);

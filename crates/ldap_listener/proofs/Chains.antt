@@ -13,11 +13,13 @@ sessions-more : (number : ℕ) (sessions : List (ℕ × ServedSession)) (s : ℕ
 sessions-more number sessions s =
     flat_map-append (of_number number) sessions (s ∷ []) ∙ ap (λ r. sessions_of number sessions ++ r) (append-nil (of_number number s))
 
+-- a session at another port is none of this port's
 pub sessions-else : (number other : ℕ) (sessions : List (ℕ × ServedSession)) (s : ServedSession) → other ≢ number → sessions_of number (sessions ++ (other, s) ∷ []) ≡ sessions_of number sessions
 sessions-else number other sessions s differs =
     let none : of_number number (other, s) ≡ [] = rw (ne_eqb other number differs) refl in
     sessions-more number sessions (other, s) ∙ ap (λ r. sessions_of number sessions ++ r) none ∙ append-nil (sessions_of number sessions)
 
+-- one at this port is its last
 pub sessions-own : (number : ℕ) (sessions : List (ℕ × ServedSession)) (s : ServedSession) → sessions_of number (sessions ++ (number, s) ∷ []) ≡ sessions_of number sessions ++ s ∷ []
 sessions-own number sessions s =
     let one : of_number number (number, s) ≡ s ∷ [] = rw (eq-eqb number number refl) refl in

@@ -17,7 +17,7 @@ use Rattle.shared_directory.specs.Passes.{DirectoryView, IsGivenBack, IsPassOf, 
 use Rattle.ldap_session.specs.declared.access.Access.{Access}
 use Rattle.ldap_server.specs.Session.{fresh}
 use Rattle.ldap_server.proofs.SamePorts.{IsSamePort, drops_same, runs_same, same_here, same_then}
-use Rattle.ldap_listener.specs.Seats.{AllCounted, AllFree, AllSeated, AreAccountedFor, IsServed, KeepsAccounts, SeatState, busy, busy_count, free, vacant}
+use Rattle.ldap_listener.specs.Seats.{AllCounted, AllFree, AllSeated, AreAccountedFor, IsServed, KeepsAccounts, ConnectionSeat, busy, busy_count, free, vacant}
 use Rattle.ldap_listener.specs.SeatsOfCode.{seat_of_pass}
 use Rattle.ldap_listener.specs.Serving.{AreClosed, AreOpened, HaveLeft, PortServed, ServesAll}
 use Rattle.ldap_listener.specs.Sessions.{Chain, IsSession, LinkView, ServedSession, sessions_of}
@@ -39,15 +39,18 @@ module _ (L : Type 0) {g : _} where
   left-seats last (pass ∷ back) left = (left.0, left-seats last back left.1)
 
 module _ {L : Type 0} {g : _} where
-  pub passes-seated : (cell : TableId) (back : List (Pass HeldState JournalNote NumberedState g)) (seats : List (SeatState L))
+  -- passes that the free seats give back are of the directory
+  pub passes-seated : (cell : TableId) (back : List (Pass HeldState JournalNote NumberedState g)) (seats : List (ConnectionSeat L))
       → map (seat_of_pass {L = L}) back ≡ seats → AllSeated cell seats → Every (λ pass. IsPassOf cell pass) back
   passes-seated cell back seats are seated = seated-passes L cell back (subst (AllSeated cell) (sym are) seated)
 
-  pub as-many : (back : List (Pass HeldState JournalNote NumberedState g)) (seats : List (SeatState L))
+  -- they are as many as the seats
+  pub as-many : (back : List (Pass HeldState JournalNote NumberedState g)) (seats : List (ConnectionSeat L))
       → map (seat_of_pass {L = L}) back ≡ seats → length back ≡ length seats
   as-many back seats are = sym (length-map back (seat_of_pass {L = L})) ∙ ap length are
 
-  pub closed : (directory : SharedDirectory) (back : List (Pass HeldState JournalNote NumberedState g)) (seats : List (SeatState L)) (v : JournalledProvider)
+  -- a directory that gave its provider back for them is closed
+  pub closed : (directory : SharedDirectory) (back : List (Pass HeldState JournalNote NumberedState g)) (seats : List (ConnectionSeat L)) (v : JournalledProvider)
       → map (seat_of_pass {L = L}) back ≡ seats → IsGivenBack directory (map view_of back) v → AreClosed directory seats v
   closed directory back seats v are given =
       subst (λ all. AreClosed directory all v) are
@@ -86,7 +89,8 @@ known_left : (number ports : ℕ) (seen : Journal) (share : List NumberedState) 
 known_left number ports seen [] none = absurd (let wrong : None ≡ Some seen = none in cc)
 known_left number ports seen (last ∷ more) some = (refl, refl)
 
-known : (view : DirectoryView) → IsUpToDate view → ((port_of view).number ≡ view.number) × ((port_of view).ports ≡ view.seats)
+-- the port of a pass that is up to date has its number, and knows how many there are
+pub known : (view : DirectoryView) → IsUpToDate view → ((port_of view).number ≡ view.number) × ((port_of view).ports ≡ view.seats)
 known view up = known_left view.number view.seats view.seen view.share up
 
 module _ {L : Type 0} (v : LinkView L) (access : Access) (Reports : Type 0) (ports : ℕ) (old : JournalledProvider)
@@ -101,7 +105,8 @@ module _ {L : Type 0} (v : LinkView L) (access : Access) (Reports : Type 0) (por
       let P : ℕ → ℕ → Type 0 = λ n m. IsLater (port_of view) (port_in n m last) in
       record { left = port_of view; chain = chain; later = subst (λ m. P number m) of_ports (subst (λ n. P n view.seats) own later) }
 
-  ports_served : (number : ℕ) (seats : List (SeatState L)) (i : ℕ) → i < length seats
+  -- the sessions of each port came one after another
+  pub ports_served : (number : ℕ) (seats : List (ConnectionSeat L)) (i : ℕ) → i < length seats
       → AllSeated cell seats → AllCounted v access Reports (λ n. first_port n ports old) sessions number seats → HaveLeft last seats
       → PortServed (number + i) ports old (sessions_of (number + i) sessions) last
   ports_served number [] i low seated counted left = absurd (omega (arith, low))
@@ -116,7 +121,7 @@ module _ {L : Type 0} (v : LinkView L) (access : Access) (Reports : Type 0) (por
   ports_served number (vacant ∷ seats) i low seated counted left = absurd left
 
 -- seats that were left are free
-left-free : {L : Type 0} (last : NumberedState) (seats : List (SeatState L)) → HaveLeft last seats → AllFree seats
+pub left-free : {L : Type 0} (last : NumberedState) (seats : List (ConnectionSeat L)) → HaveLeft last seats → AllFree seats
 left-free last [] left = tt
 left-free last (free c view ∷ seats) left = (refl, left-free last seats left.1)
 left-free last (busy c view access link ∷ seats) left = absurd left
@@ -124,8 +129,9 @@ left-free last (vacant ∷ seats) left = absurd left
 
 -- ---- all connections
 
+-- so all links that were accepted were served over one journal
 pub serves_all : {L C M : Type 0} (v : LinkView L) (access : Access) (ports : ℕ) (old new : JournalledProvider) (directory : SharedDirectory)
-    (k : ℕ) (before after : Option (Served L C M)) (first seats : List (SeatState L))
+    (k : ℕ) (before after : Option (Served L C M)) (first seats : List (ConnectionSeat L))
     → AreOpened old ports directory first → KeepsAccounts v access (directory_id directory) k before first after seats → length seats ≡ length first → AreClosed directory seats new
     → ServesAll v access ports old new k before after
 serves_all v access ports old new directory k before after first seats opened keeps count closed =

@@ -7,3 +7,4 @@ pub mod Opening
 pub mod Rows
 pub mod Sent
 pub mod Served
+pub mod ExtraPort

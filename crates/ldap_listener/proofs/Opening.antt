@@ -13,7 +13,7 @@ use Rattle.shared_directory.specs.Passes as passes
 use Rattle.shared_directory.specs.Passes.{directory_id, first_port, made_with, ports_of}
 use Rattle.shared_directory.specs.declared.directory.SharedDirectory.{SharedDirectory}
 use Rattle.ldap_session.specs.declared.access.Access.{Access}
-use Rattle.ldap_listener.specs.Seats.{AllCounted, AllFree, AllSeated, AreAccountedFor, AreInOrder, HasRoom, IsReported, SeatState, busy, busy_count, free, vacant}
+use Rattle.ldap_listener.specs.Seats.{AllCounted, AllFree, AllSeated, AreAccountedFor, AreInOrder, HasRoom, IsReported, ConnectionSeat, busy, busy_count, free, vacant}
 use Rattle.ldap_listener.specs.SeatsOfCode.{seat_of_pass}
 use Rattle.ldap_listener.specs.Serving.{AreFirst, AreOpened}
 use Rattle.ldap_listener.specs.Sessions.{LinkView}
@@ -21,18 +21,19 @@ use Rattle.ldap_listener.proofs.Accounts.{busy-free}
 
 module _ (L : Type 0) {g : _} where
   -- the seats of passes that were made
-  first-seated : (cell : TableId) (ports : ℕ) (v : JournalledProvider) (number : ℕ) (made : List (Pass HeldState JournalNote NumberedState g))
+  pub first-seated : (cell : TableId) (ports : ℕ) (v : JournalledProvider) (number : ℕ) (made : List (Pass HeldState JournalNote NumberedState g))
       → passes.AreFirst cell ports v number made → AllSeated {L = L} cell (map (seat_of_pass {L = L}) made)
   first-seated cell ports v number [] first = tt
   first-seated cell ports v number (pass ∷ made) first = (first.0, first-seated cell ports v (suc number) made first.2)
 
-  first-known : (cell : TableId) (ports : ℕ) (v : JournalledProvider) (number : ℕ) (made : List (Pass HeldState JournalNote NumberedState g))
+  -- passes with which a directory is made are those of its first seats
+  pub first-known : (cell : TableId) (ports : ℕ) (v : JournalledProvider) (number : ℕ) (made : List (Pass HeldState JournalNote NumberedState g))
       → passes.AreFirst cell ports v number made → AreFirst {L = L} ports v number (map (seat_of_pass {L = L}) made)
   first-known cell ports v number [] first = tt
   first-known cell ports v number (pass ∷ made) first = (first.1, first-known cell ports v (suc number) made first.2)
 
 -- the seats of a directory that was shared
-pub opened : {L : Type 0} {g : _} (v : JournalledProvider) (ports : ℕ) (directory : SharedDirectory) (made : List (Pass HeldState JournalNote NumberedState g)) (seats : List (SeatState L))
+pub opened : {L : Type 0} {g : _} (v : JournalledProvider) (ports : ℕ) (directory : SharedDirectory) (made : List (Pass HeldState JournalNote NumberedState g)) (seats : List (ConnectionSeat L))
     → ports_of directory ≡ ports → length made ≡ ports → passes.AreFirst (directory_id directory) ports v 1 made
     → made_with directory ≡ first_held v ports → seats ≡ map seat_of_pass made → AreOpened v ports directory seats
 opened {L} v ports directory made seats of_ports count first given are =
@@ -46,14 +47,14 @@ opened {L} v ports directory made seats of_ports count first given are =
     })
 
 module _ {L : Type 0} where
-  first-free : (ports : ℕ) (v : JournalledProvider) (number : ℕ) (seats : List (SeatState L)) → AreFirst ports v number seats → AllFree seats
+  first-free : (ports : ℕ) (v : JournalledProvider) (number : ℕ) (seats : List (ConnectionSeat L)) → AreFirst ports v number seats → AllFree seats
   first-free ports v number [] first = tt
   first-free ports v number (free cell view ∷ seats) first = (refl, first-free ports v (suc number) seats first.1)
   first-free ports v number (busy cell view access link ∷ seats) first = absurd first
   first-free ports v number (vacant ∷ seats) first = absurd first
 
   -- no port has a session yet
-  first-counted : (view : LinkView L) (access : Access) (Reports : Type 0) (ports : ℕ) (v : JournalledProvider) (number : ℕ) (seats : List (SeatState L))
+  first-counted : (view : LinkView L) (access : Access) (Reports : Type 0) (ports : ℕ) (v : JournalledProvider) (number : ℕ) (seats : List (ConnectionSeat L))
       → AreFirst ports v number seats → AllCounted view access Reports (λ n. first_port n ports v) [] number seats
   first-counted view access Reports ports v number [] first = tt
   first-counted view access Reports ports v number (free cell seen ∷ seats) first =
@@ -63,11 +64,11 @@ module _ {L : Type 0} where
 
 -- nothing was accepted since
 reported-none : {L C M : Type 0} (net : Option (Served L C M)) → IsReported net 0 net []
-reported-none None = tt
-reported-none (Some s) = (refl, omega arith, sym (append-nil s.released))
+reported-none None = refl
+reported-none (Some s) = (refl, omega arith, sym (append-nil s.released), record { callers = refl; retired = refl; gone = refl; to_come = refl })
 
 -- the accounts before the first connection
-pub accounts-first : {L C M : Type 0} (view : LinkView L) (access : Access) (ports : ℕ) (v : JournalledProvider) (net : Option (Served L C M)) (seats : List (SeatState L))
+pub accounts-first : {L C M : Type 0} (view : LinkView L) (access : Access) (ports : ℕ) (v : JournalledProvider) (net : Option (Served L C M)) (seats : List (ConnectionSeat L))
     → AreFirst ports v 1 seats → AreAccountedFor view access (λ n. first_port n ports v) net 0 net seats
 accounts-first view access ports v net seats first =
     let none : busy_count seats ≡ 0 = busy-free seats (first-free ports v 1 seats first) in
@@ -82,13 +83,13 @@ accounts-first view access ports v net seats first =
     }
 
 -- where all seats are free, no more links need room than were released
-free-room : {L C M : Type 0} (net : Option (Served L C M)) (seats : List (SeatState L)) → AllFree seats → IfSome net (λ s. length s.released ≤ s.accepted) → HasRoom net seats
+free-room : {L C M : Type 0} (net : Option (Served L C M)) (seats : List (ConnectionSeat L)) → AllFree seats → IfSome net (λ s. length s.released ≤ s.accepted) → HasRoom net seats
 free-room None seats all within = tt
 free-room (Some s) seats all within =
     let none = busy-free seats all in
     omega (arith, none, within)
 
 -- net and seats before the first connection
-pub first-order : {L C M : Type 0} (cell : TableId) (ports : ℕ) (v : JournalledProvider) (net : Option (Served L C M)) (seats : List (SeatState L))
+pub first-order : {L C M : Type 0} (cell : TableId) (ports : ℕ) (v : JournalledProvider) (net : Option (Served L C M)) (seats : List (ConnectionSeat L))
     → AllSeated cell seats → AreFirst ports v 1 seats → IfSome net (λ s. length s.released ≤ s.accepted) → AreInOrder cell net seats
 first-order cell ports v net seats seated first within = record { seated = seated; room = free-room net seats (first-free ports v 1 seats first) within }

@@ -5,7 +5,7 @@ use Rattle.std.proofs.Math.ListN.{get_or-map}
 use Rattle.atomic_table.specs.Seated.{TableId}
 use Rattle.shared_directory.specs.Passes.{DirectoryView}
 use Rattle.ldap_session.specs.declared.access.Access.{Access}
-use Rattle.ldap_listener.specs.Seats.{IsFree, SeatState, busy, free}
+use Rattle.ldap_listener.specs.Seats.{IsFree, ConnectionSeat, busy, free}
 use Rattle.ldap_listener.specs.SeatsOfCode.{seat_of}
 use Rattle.ldap_listener.specs.declared.seat.Seat.{Seat}
 use Rattle.ldap_listener.specs.declared.seat.Seat.TheVariants.{Busy, Free, Vacant}
@@ -16,6 +16,7 @@ module _ {L : Type 0} (seats : List (Seat L)) (i : ℕ) where
   pub twice : (a b : Seat L) → map seat_of (set (set seats i a) i b) ≡ set (map seat_of seats) i (seat_of b)
   twice a b = ap (map seat_of) (set-set seats i a b) ∙ map-set seat_of seats i b
 
+  -- a seat of the code that is busy is so as contracts see it
   pub there-busy : (d r : Seat L) (c : TableId) (view : DirectoryView) (access : Access) (link : L) → i < length seats → r ≡ get_or seats i d → seat_of r ≡ busy c view access link
       → IsBusyAt (map seat_of seats) i c view access link
   there-busy d r c view access link low is at = record {
@@ -24,6 +25,7 @@ module _ {L : Type 0} (seats : List (Seat L)) (i : ℕ) where
     at = get_or-map seat_of seats i d ∙ ap seat_of (sym is) ∙ at;
   }
 
+  -- and so is one that is free
   pub there-free : (d r : Seat L) (c : TableId) (view : DirectoryView) → i < length seats → r ≡ get_or seats i d → seat_of r ≡ free c view → HasFree (map seat_of seats) i c view
   there-free d r c view low is at = record {
     low = omega (arith, length-map seats seat_of, low);
@@ -33,13 +35,8 @@ module _ {L : Type 0} (seats : List (Seat L)) (i : ℕ) where
 
 -- ---- one after another
 
--- nothing is left of what has no length
-pub nothing_left : {A : Type 0} (items : List A) → length items ≡ 0 → items ≡ []
-nothing_left [] none = refl
-nothing_left (x ∷ items) none = absurd (omega arith)
-
 -- the first of those that are left is moved after those that are done
-pub moved : {L A : Type 0} (f : A → SeatState L) (done : List A) (one : A) (seat : SeatState L) (rest all : List (SeatState L))
+pub moved : {L A : Type 0} (f : A → ConnectionSeat L) (done : List A) (one : A) (seat : ConnectionSeat L) (rest all : List (ConnectionSeat L))
     → f one ≡ seat → map f done ++ seat ∷ rest ≡ all → map f (done ++ one ∷ []) ++ rest ≡ all
 moved f done one seat rest all is so_far =
     ap (λ xs. xs ++ rest) (map-append f done (one ∷ [])) ∙ append_assoc (map f done) (f one ∷ []) rest

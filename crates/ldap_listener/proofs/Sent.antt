@@ -2,7 +2,7 @@
 use denote.RattleType.{RattleType}
 use denote.Ref.{NamedLft, ShrRef}
 use denote.Struct.Declared.{Declared, row}
-use denote.Struct.Field.{row_field, shr_ref_field, u64-field}
+use denote.Struct.Field.{bool-field, row_field, shr_ref_field, u64-field}
 use denote.Struct.Tuple.{type_at}
 use denote.Param.Send.{IsSend, IsSync, sendable, shr_send, shr_sync}
 use denote.Param.SendFields.{as_row_send, as_row_sync, declared_send, declared_sync}
@@ -10,7 +10,7 @@ use Rattle.std.proofs.Common.{ℕ, List, [], ◌∷◌}
 use Rattle.std.specs.contracts.alloc.Global as Global
 use Rattle.turn_cell.specs.contracts.pass.Pass as Pass
 use Rattle.sync_provider.specs.contracts.journal_note.JournalNote as JournalNote
-use Rattle.shared_directory.proofs.Sent.{directory_sync, pass_field_send, pass_send}
+use Rattle.shared_directory.proofs.Sent.{directory_sync, pass_field_send, pass_send, spec_sync}
 use Rattle.shared_directory.specs.contracts.directory.SharedDirectory as SharedDirectory
 use Rattle.shared_directory.specs.contracts.held.HeldDirectory as HeldDirectory
 use Rattle.shared_directory.specs.contracts.held.HeldDirectoryJournalled.TheImpl.{ghosts}
@@ -20,9 +20,14 @@ use Rattle.ldap_session.proofs.ended.Ended.TheSendSync as ends
 use Rattle.ldap_session.specs.contracts.access.Access as Access
 use Rattle.ldap_session.specs.contracts.ended.Ended as Ended
 use Rattle.ldap_listener.proofs.bell.Bell.TheSendSync as bells
+use Rattle.replica_node.proofs.end.NodeEnd.TheSendSync as node_ends
+use Rattle.replica_node.specs.contracts.end.NodeEnd as NodeEnd
+use Rattle.sync_config.proofs.text.ConfigText.TheSendSync as texts
+use Rattle.sync_config.specs.contracts.upstream.Upstream as Upstream
+use Rattle.ldap_listener.specs.contracts.beside.Followed as Followed
 use Rattle.ldap_listener.specs.contracts.bell.Bell as Bell
 use Rattle.ldap_listener.specs.contracts.ended_connection.EndedConnection as EndedConnection
-use Rattle.ldap_listener.specs.contracts.host.Host as Host
+use Rattle.ldap_listener.specs.contracts.server.Server as Server
 
 abbrev one_pass : RattleType
 one_pass = Pass.the_row HeldDirectory.the_row JournalNote.the_row NumberedProvider.the_row ghosts
@@ -35,6 +40,18 @@ ended_send L link =
       (as_row_send (row_field L) link, (as_row_send Ended.the_field ends.the_field_send, tt)),
     )
 
+-- what the half that follows hands back
+pub followed_send : (D : RattleType) → IsSend D → IsSend (Followed.the_row D)
+followed_send D dial =
+    declared_send (Followed.the_type D) (
+      as_row_send (Pass.the_field HeldDirectory.the_row JournalNote.the_row NumberedProvider.the_row ghosts) (pass_field_send ghosts),
+      (as_row_send (row_field D) dial, (as_row_send NodeEnd.the_field node_ends.the_field_send, tt)),
+    )
+
+-- threads may share what is wanted of an upstream
+upstream_sync : IsSync Upstream.the_row
+upstream_sync = declared_sync Upstream.the_type (texts.the_sync, (spec_sync, (as_row_sync bool-field (search sendable depth 20), tt)))
+
 allocator_sync : IsSync (Global.the_field).row
 allocator_sync = search sendable depth 20
 
@@ -44,9 +61,9 @@ module _ (a : NamedLft) (R K G : RattleType) (r : IsSync R) (k : IsSync K) (g : 
   shared S = shr_sync a.mir a.lft S
 
   -- threads may share what they are given to share
-  host_sync : IsSync (Host.the_row a R K G)
-  host_sync =
-      declared_sync (Host.the_type a R K G) (
+  server_sync : IsSync (Server.the_row a R K G)
+  server_sync =
+      declared_sync (Server.the_type a R K G) (
         as_row_sync (row_field (ShrRef a.mir a.lft R)) (shared R r),
         (
           as_row_sync Global.the_field allocator_sync,
@@ -67,8 +84,8 @@ module _ (a : NamedLft) (R K G : RattleType) (r : IsSync R) (k : IsSync K) (g : 
       )
 
   module _ (L : RattleType) (link : IsSend L) (name : List ℕ) (b : NamedLft) where
-    host_send : IsSend (shr_ref_field b (Host.the_row a R K G) tt).row
-    host_send = shr_send b.mir b.lft (Host.the_row a R K G) host_sync
+    server_send : IsSend (shr_ref_field b (Server.the_row a R K G) tt).row
+    server_send = shr_send b.mir b.lft (Server.the_row a R K G) server_sync
 
     number_send : IsSend (u64-field).row
     number_send = search sendable depth 20
@@ -76,7 +93,28 @@ module _ (a : NamedLft) (R K G : RattleType) (r : IsSync R) (k : IsSync K) (g : 
     -- what the closure has that serves a link: what all threads share, two numbers, a pass and the
     -- link
     abbrev given : Declared
-    given = type_at name ((shr_ref_field b (Host.the_row a R K G) tt).row ∷ (u64-field).row ∷ (u64-field).row ∷ one_pass ∷ L ∷ [])
+    given = type_at name ((shr_ref_field b (Server.the_row a R K G) tt).row ∷ (u64-field).row ∷ (u64-field).row ∷ one_pass ∷ L ∷ [])
 
+    -- what the thread of a connection is given may go there
     pub given_send : IsSend (row given)
-    given_send = declared_send given (host_send, (number_send, (number_send, (pass_send ghosts, (as_row_send (row_field L) link, tt)))))
+    given_send = declared_send given (server_send, (number_send, (number_send, (pass_send ghosts, (as_row_send (row_field L) link, tt)))))
+
+  module _ (D : RattleType) (dial : IsSend D) (name : List ℕ) (b c : NamedLft) where
+    -- what the closure has that follows an upstream: what all threads share, a pass, a dialler, the
+    -- upstream and a number
+    abbrev followed_given : Declared
+    followed_given = type_at name ((shr_ref_field b (Server.the_row a R K G) tt).row ∷ one_pass ∷ D ∷ (shr_ref_field c Upstream.the_row tt).row ∷ (u64-field).row ∷ [])
+
+    count_send : IsSend (u64-field).row
+    count_send = search sendable depth 20
+
+    -- so may what the thread that follows an upstream is given
+    pub followed_given_send : IsSend (row followed_given)
+    followed_given_send =
+        declared_send followed_given (
+          shr_send b.mir b.lft (Server.the_row a R K G) server_sync,
+          (
+            pass_send ghosts,
+            (as_row_send (row_field D) dial, (shr_send c.mir c.lft Upstream.the_row upstream_sync, (count_send, tt))),
+          ),
+        )

@@ -56,7 +56,7 @@ module _ {L : Type 0} (v : LinkView L) (access : Access) where
 
   -- a session from its beginning on
   pub served_by : (before after : PortState) (old new : L) (left : Connected) (ended : Ended)
-      → Serves (fresh before access) (bytes_of old) ended left (bytes_of new) → DropsAll left.standing.searches left.port after
+      → Serves (fresh before access) (bytes_of old) ended left (bytes_of new) → DropsAll left.session.searches left.port after
       → (ended ≡ ReadFault → CountHasRisen (v.read_faults old) (v.read_faults new)) → (ended ≡ WriteFault → CountHasRisen (v.write_faults old) (v.write_faults new))
       → HasServed v access before old after new
   served_by before after old new left ended s drops unread unwritten =
@@ -81,7 +81,7 @@ module _ {L : Type 0} (v : LinkView L) (access : Access) where
   pub unserved : (port : PortState) (link : L) → HasServed v access port link port link
   unserved port link =
       let session : ServedSession = record { before = port; events = []; sent = []; written = []; ended = NoMemory; after = port } in
-      let left : Connected = record { port = port; access = access; standing = record { bound = false; searches = [] }; kept = []; ended = Some NoMemory } in (
+      let left : Connected = record { port = port; access = access; session = record { bound = false; searches = [] }; kept = []; ended = Some NoMemory } in (
         session,
         record {
           before_is = refl;
@@ -92,7 +92,7 @@ module _ {L : Type 0} (v : LinkView L) (access : Access) where
               access_is = refl;
               live = λ _ other. absurd (other refl);
               end = λ _ other. absurd (other refl);
-              halts = λ _ _. record { done = []; later = []; acts_are = refl; between = record { port = port; standing = record { bound = false; searches = [] }; sent = [] }; goes = refl; asked = []; exchanged = refl; sent_is = refl };
+              halts = λ _ _. record { done = []; later = []; acts_are = refl; between = record { port = port; session = record { bound = false; searches = [] }; sent = [] }; does = refl; asked = []; exchanged = refl; sent_is = refl };
             };
             drops = record { asked = []; drops = refl; exchanged = refl };
             unwritten = [];

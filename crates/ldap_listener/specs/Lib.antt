@@ -3,3 +3,4 @@ pub mod Sessions
 pub mod Seats
 pub mod SeatsOfCode
 pub mod Serving
+pub mod Beside

@@ -13,70 +13,77 @@ use Rattle.ldap_session.specs.declared.access.Access.{Access}
 use Rattle.ldap_listener.specs.Sessions.{Chain, IsFresh, IsSession, LinkView, ServedSession, Reported, sessions_of}
 
 -- a pass that is free, or as it was given to a connection with its link, and who may write there
-pub data SeatState (L : Type 0) : Type 0 where
-  free : TableId → DirectoryView → SeatState L
-  busy : TableId → DirectoryView → Access → L → SeatState L
-  vacant : SeatState L
+pub data ConnectionSeat (L : Type 0) : Type 0 where
+  free : TableId → DirectoryView → ConnectionSeat L
+  busy : TableId → DirectoryView → Access → L → ConnectionSeat L
+  vacant : ConnectionSeat L
 
 module _ {L : Type 0} where
   -- a pass of this cell
-  abbrev pub IsSeated : TableId → SeatState L → Type 0
+  abbrev pub IsSeated : TableId → ConnectionSeat L → Type 0
   IsSeated cell (free c view) = (c ≡ cell) × IsUpToDate view
   IsSeated cell (busy c view access link) = (c ≡ cell) × IsUpToDate view
   IsSeated cell vacant = ⊥
 
-  abbrev pub AllSeated : TableId → List (SeatState L) → Type 0
+  abbrev pub AllSeated : TableId → List (ConnectionSeat L) → Type 0
   AllSeated cell [] = Unit {0}
   AllSeated cell (seat ∷ seats) = IsSeated cell seat × AllSeated cell seats
 
-  abbrev pub is_free : SeatState L → Bool
+  abbrev pub is_free : ConnectionSeat L → Bool
   is_free (free c view) = true
   is_free (busy c view access link) = false
   is_free vacant = false
 
-  abbrev pub IsFree : SeatState L → Type 0
+  abbrev pub IsFree : ConnectionSeat L → Type 0
   IsFree seat = is_free seat ≡ true
 
-  abbrev pub AllFree : List (SeatState L) → Type 0
+  abbrev pub AllFree : List (ConnectionSeat L) → Type 0
   AllFree [] = Unit {0}
   AllFree (seat ∷ seats) = IsFree seat × AllFree seats
 
   -- the pass of this place is free
-  abbrev pub IsFreeAt : List (SeatState L) → ℕ → Type 0
+  abbrev pub IsFreeAt : List (ConnectionSeat L) → ℕ → Type 0
   IsFreeAt seats place = IsFree (slice_index_or seats place vacant)
 
-  abbrev pub counts : SeatState L → ℕ
+  abbrev pub counts : ConnectionSeat L → ℕ
   counts (free c view) = 0
   counts (busy c view access link) = 1
   counts vacant = 0
 
   -- how many connections are served
-  abbrev pub busy_count : List (SeatState L) → ℕ
+  abbrev pub busy_count : List (ConnectionSeat L) → ℕ
   busy_count [] = 0
   busy_count (seat ∷ seats) = counts seat + busy_count seats
 
 -- as many links can be released as connections are served
-abbrev pub HasRoom : {L C M : Type 0} → Option (Served L C M) → List (SeatState L) → Type 0
+abbrev pub HasRoom : {L C M : Type 0} → Option (Served L C M) → List (ConnectionSeat L) → Type 0
 HasRoom served seats = IfSome served (λ s. length s.released + busy_count seats ≤ s.accepted)
 
 -- what holds of a net and of the seats whenever a link is accepted or released: each seat has a
 -- pass of this cell, and the links of all connections that are served can be released
 pub record AreInOrder {L C M : Type 0}
-    (cell : TableId) (net : Option (Served L C M)) (seats : List (SeatState L)) : Type 0 where
+    (cell : TableId) (net : Option (Served L C M)) (seats : List (ConnectionSeat L)) : Type 0 where
   pub seated : AllSeated cell seats
   pub room : HasRoom net seats
 
 -- ---- what became of the links that were accepted
 
+-- it was not asked for a caller, and none came back
+pub record HasSameCallers {L C M : Type 0} (before now : Served L C M) : Type 0 where
+  pub callers : now.callers ≡ before.callers
+  pub retired : now.retired ≡ before.retired
+  pub gone : now.gone ≡ before.gone
+  pub to_come : now.callers_to_come ≡ before.callers_to_come
+
 -- since it reported `before`, a net accepted n links, and these were released
 abbrev pub IsReported : {L C M : Type 0} → Option (Served L C M) → ℕ → Option (Served L C M)
     → List L
     → Type 0
-IsReported None n now links = Unit {0}
+IsReported None n now links = now ≡ None
 IsReported (Some before) n None links = ⊥
 IsReported (Some before) n (Some now) links =
     (now.asked ≡ before.asked) × (now.accepted ≡ before.accepted + n)
-    × (now.released ≡ before.released ++ links)
+    × (now.released ≡ before.released ++ links) × HasSameCallers before now
 
 -- a released link had a session, which it reports where the net reports its links
 abbrev pub IsServed : {L : Type 0} → LinkView L → Access → Type 0 → L → ℕ × ServedSession → Type 0
@@ -84,7 +91,7 @@ IsServed v access Reports link s = IsSession access s.1 × (Reports → Reported
 
 -- the port of a seat knows what it knows after its sessions
 abbrev pub IsCounted : {L : Type 0} → LinkView L → Access → Type 0 → PortState
-    → List ServedSession → SeatState L → Type 0
+    → List ServedSession → ConnectionSeat L → Type 0
 IsCounted v access Reports first sessions (free c view) = Chain first sessions (port_of view)
 IsCounted v access Reports first sessions (busy c view given link) =
     Chain first sessions (port_of view) × (given ≡ access) × (Reports → IsFresh v link)
@@ -92,7 +99,7 @@ IsCounted v access Reports first sessions vacant = ⊥
 
 -- the seats from this number on
 abbrev pub AllCounted : {L : Type 0} → LinkView L → Access → Type 0 → (ℕ → PortState)
-    → List (ℕ × ServedSession) → (number : ℕ) → List (SeatState L) → Type 0
+    → List (ℕ × ServedSession) → (number : ℕ) → List (ConnectionSeat L) → Type 0
 AllCounted v access Reports first sessions number [] = Unit {0}
 AllCounted v access Reports first sessions number (seat ∷ seats) =
     IsCounted v access Reports (first number) (sessions_of number sessions) seat
@@ -102,7 +109,7 @@ AllCounted v access Reports first sessions number (seat ∷ seats) =
 -- were released, each after its session, which has the number of the seat at whose port it was.
 pub record AreAccountedFor {L C M : Type 0}
     (v : LinkView L) (access : Access) (first : ℕ → PortState) (before : Option (Served L C M))
-    (n : ℕ) (now : Option (Served L C M)) (seats : List (SeatState L)) : Type 0 where
+    (n : ℕ) (now : Option (Served L C M)) (seats : List (ConnectionSeat L)) : Type 0 where
   pub links : List L
   pub sessions : List (ℕ × ServedSession)
   pub reported : IsReported before n now links
@@ -113,7 +120,7 @@ pub record AreAccountedFor {L C M : Type 0}
 
 -- k more links were accepted: where the links before them were accounted for, all are
 abbrev pub AccountsForMore : {L C M : Type 0} → LinkView L → Access → ℕ → Option (Served L C M)
-    → List (SeatState L) → Option (Served L C M) → List (SeatState L) → Type 0
+    → List (ConnectionSeat L) → Option (Served L C M) → List (ConnectionSeat L) → Type 0
 AccountsForMore {L} {C} {M} v access k old seats new seats' =
     (first : ℕ → PortState) (before : Option (Served L C M)) (n : ℕ)
     → AreAccountedFor v access first before n old seats
@@ -122,16 +129,16 @@ AccountsForMore {L} {C} {M} v access k old seats new seats' =
 -- k more links were accepted, each link is accounted for, and net and seats are in order
 pub record KeepsAccounts {L C M : Type 0}
     (v : LinkView L) (access : Access) (cell : TableId) (k : ℕ)
-    (old : Option (Served L C M)) (seats : List (SeatState L))
-    (new : Option (Served L C M)) (seats' : List (SeatState L)) : Type 0 where
+    (old : Option (Served L C M)) (seats : List (ConnectionSeat L))
+    (new : Option (Served L C M)) (seats' : List (ConnectionSeat L)) : Type 0 where
   pub order : AreInOrder cell new seats'
   pub accounts : AccountsForMore v access k old seats new seats'
 
 -- the same of a number of links of which this is known
 pub record AcceptsLinks {L C M : Type 0}
     (v : LinkView L) (access : Access) (cell : TableId) (IsKnown : ℕ → Type 0)
-    (old : Option (Served L C M)) (seats : List (SeatState L))
-    (new : Option (Served L C M)) (seats' : List (SeatState L)) : Type 0 where
+    (old : Option (Served L C M)) (seats : List (ConnectionSeat L))
+    (new : Option (Served L C M)) (seats' : List (ConnectionSeat L)) : Type 0 where
   pub count : ℕ
   pub known : IsKnown count
   pub keeps : KeepsAccounts v access cell count old seats new seats'

@@ -3,11 +3,11 @@ use Rattle.turn_cell.specs.declared.pass.Pass.{Pass}
 use Rattle.turn_cell.specs.Passes.{cell_of, view_of}
 use Rattle.sync_provider.specs.declared.journal_note.JournalNote.{JournalNote}
 use Rattle.shared_directory.specs.Desks.{HeldState, NumberedState}
-use Rattle.ldap_listener.specs.Seats.{SeatState, busy, free, vacant}
+use Rattle.ldap_listener.specs.Seats.{ConnectionSeat, busy, free, vacant}
 use Rattle.ldap_listener.specs.declared.seat.Seat.{Seat}
 use Rattle.ldap_listener.specs.declared.seat.Seat.TheVariants.{Busy, Free, Vacant}
 
-abbrev pub seat_of : {L : Type 0} → Seat L → SeatState L
+abbrev pub seat_of : {L : Type 0} → Seat L → ConnectionSeat L
 seat_of (Free pass) = free (cell_of pass) (view_of pass)
 seat_of (Busy child) =
     busy (cell_of child.promise.pass.value) (view_of child.promise.pass.value)
@@ -15,5 +15,5 @@ seat_of (Busy child) =
 seat_of Vacant = vacant
 
 abbrev pub seat_of_pass : {L : Type 0} {g : _} → Pass HeldState JournalNote NumberedState g
-    → SeatState L
+    → ConnectionSeat L
 seat_of_pass pass = free (cell_of pass) (view_of pass)

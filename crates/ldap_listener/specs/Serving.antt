@@ -9,14 +9,14 @@ use Rattle.shared_directory.specs.Desks.{NumberedState, port_in, port_journal}
 use Rattle.shared_directory.specs.Passes.{directory_id, first_port, made_with, port_of, ports_of}
 use Rattle.shared_directory.specs.declared.directory.SharedDirectory.{SharedDirectory}
 use Rattle.ldap_session.specs.declared.access.Access.{Access}
-use Rattle.ldap_listener.specs.Seats.{AllSeated, IsReported, IsServed, SeatState, busy, free, vacant}
+use Rattle.ldap_listener.specs.Seats.{AllSeated, IsReported, IsServed, ConnectionSeat, busy, free, vacant}
 use Rattle.ldap_listener.specs.Sessions.{Chain, LinkView, ServedSession, sessions_of}
 
 -- ---- the seats of a directory before the first connection and after the last one
 
 -- free seats whose ports know what a directory begins with, with the numbers from `number` on
 abbrev pub AreFirst : {L : Type 0} → (ports : ℕ) → JournalledProvider → (number : ℕ)
-    → List (SeatState L) → Type 0
+    → List (ConnectionSeat L) → Type 0
 AreFirst ports v number [] = Unit {0}
 AreFirst ports v number (free cell view ∷ seats) =
     (port_of view ≡ first_port number ports v) × AreFirst ports v (suc number) seats
@@ -25,7 +25,7 @@ AreFirst ports v number (vacant ∷ seats) = ⊥
 
 -- A directory goes on from this provider, and each of its ports has a free seat.
 pub record AreOpened {L : Type 0} (v : JournalledProvider) (ports : ℕ)
-    (directory : SharedDirectory) (seats : List (SeatState L))
+    (directory : SharedDirectory) (seats : List (ConnectionSeat L))
     : Type 0 where
   pub count : length seats ≡ ports
   pub ports_are : ports_of directory ≡ ports
@@ -34,7 +34,7 @@ pub record AreOpened {L : Type 0} (v : JournalledProvider) (ports : ℕ)
   pub journal : port_journal (made_with directory).now ≡ journal_in v
 
 -- free seats to whose ports entries of others alone came in since their last call
-abbrev pub HaveLeft : {L : Type 0} → NumberedState → List (SeatState L) → Type 0
+abbrev pub HaveLeft : {L : Type 0} → NumberedState → List (ConnectionSeat L) → Type 0
 HaveLeft last [] = Unit {0}
 HaveLeft last (free cell view ∷ seats) =
     IsLater (port_of view) (port_in view.number view.seats last) × HaveLeft last seats
@@ -44,7 +44,7 @@ HaveLeft last (vacant ∷ seats) = ⊥
 -- A directory was closed, and its provider is as the ports of these seats left it. Each entry since
 -- it was opened has the number of a port.
 pub record AreClosed {L : Type 0}
-    (directory : SharedDirectory) (seats : List (SeatState L))
+    (directory : SharedDirectory) (seats : List (ConnectionSeat L))
     (v : JournalledProvider) : Type 0 where
   pub last : NumberedState
   pub provider : last.provider ≡ v

@@ -7,16 +7,16 @@ use Rattle.sync_provider.specs.Ports.{PortState}
 use Rattle.ldap_session.specs.declared.access.Access.{Access}
 use Rattle.ldap_session.specs.declared.ended.Ended.{Ended}
 use Rattle.ldap_session.specs.declared.ended.Ended.TheVariants.{EndOfInput, ReadFault, WriteFault}
-use Rattle.ldap_session.specs.declared.event.Event.{Event}
+use Rattle.ldap_session.specs.declared.event.LinkEvent.{LinkEvent}
 use Rattle.ldap_server.specs.Serving.{IsEndOf, IsPrompt, brought_by}
-use Rattle.ldap_server.specs.Session.{Connected, Runs, fresh}
+use Rattle.ldap_server.specs.Session.{Connected, HandlesEvents, fresh}
 use Rattle.ldap_server.specs.Table.{DropsAll}
 
 -- A connection that was served: what its port knew before; what came, what its session sent for
 -- that and what of it was written; how it ended; and what its port knew after.
 pub record ServedSession : Type 0 where
   pub before : PortState
-  pub events : List Event
+  pub events : List LinkEvent
   pub sent : List ℕ
   pub written : List ℕ
   pub ended : Ended
@@ -27,8 +27,8 @@ pub record ServedSession : Type 0 where
 -- after what ended it.
 pub record IsSession (access : Access) (s : ServedSession) : Type 0 where
   pub left : Connected
-  pub runs : Runs (fresh s.before access) s.events s.sent left
-  pub drops : DropsAll left.standing.searches left.port s.after
+  pub runs : HandlesEvents (fresh s.before access) s.events s.sent left
+  pub drops : DropsAll left.session.searches left.port s.after
   pub unwritten : List ℕ
   pub sent_is : s.sent ≡ s.written ++ unwritten
   pub whole : s.ended ≢ WriteFault → unwritten ≡ []

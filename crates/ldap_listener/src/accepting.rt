@@ -10,8 +10,8 @@ ghost use Rattle.ldap_listener.specs.Sessions.{HasServed, seen_by};
 
 use crate::collecting::{free_all, wait_for_seat};
 use crate::ended_connection::{EndedConnection, ServesOne};
-use crate::host::Host;
 use crate::seat::Seat;
+use crate::server::Server;
 use crate::serving::serve_one;
 use ldap_server::Gate;
 use shared_directory::DirectoryPass;
@@ -24,7 +24,7 @@ use sync_io::{Clock, Net, NetFault};
 /// Serves a link on a thread of its own, or here where none can be made.
 fn start<'s, E, R: Threads + Wait + Sync, N: Net, K: Clock + Sync, G: Gate + Sync>(
     scope: &Scope<'s, E>,
-    host: &'s Host<'s, R, K, G>,
+    server: &'s Server<'s, R, K, G>,
     place: usize,
     number: u64,
     pass: DirectoryPass,
@@ -32,25 +32,25 @@ fn start<'s, E, R: Threads + Wait + Sync, N: Net, K: Clock + Sync, G: Gate + Syn
 ) -> Result<PromisedHandle<EndedConnection<N::Link>, ServesOne<N::Link>>, EndedConnection<N::Link>>
 where
     N::Link: 's,
-    requires pass { IsPassOf (directory_id host.now.directory.now) pass }
+    requires pass { IsPassOf (directory_id server.now.directory.now) pass }
     ensures ok { IfOk result (λ child. (child.promise.pass.value ≡ pass)
         × (child.promise.link.value ≡ link)
-        × (child.promise.access.value ≡ host.entry.now.access.now)) }
+        × (child.promise.access.value ≡ server.entry.now.access.now)) }
     ensures err { IfErr result (λ served. IsPassOf (cell_of pass) served.pass
         × HasServed
         (seen_by N.Link.bytes_left N.Link.bytes_read N.Link.bytes_held
         N.Link.read_fault_count N.Link.write_fault_count)
-        host.entry.now.access.now (port_of (view_of pass)) link
+        server.entry.now.access.now (port_of (view_of pass)) link
         (port_of (view_of served.pass)) served.link) }
 {
     let serves = ServesOne {
         pass: Snapshot::of(&pass),
         link: Snapshot::of(&link),
-        access: Snapshot::of(host.access),
+        access: Snapshot::of(server.access),
     };
     let serve = move || -> EndedConnection<N::Link>
-        requires { IsPassOf (directory_id host.now.directory.now) pass }
-    { serve_one(host, place, number, pass, link) };
+        requires { IsPassOf (directory_id server.now.directory.now) pass }
+    { serve_one(server, place, number, pass, link) };
     match scope.spawn_with(serves, serve) {
         Ok(child) => Ok(child),
         Err(refused) => Err((refused.value)()),
@@ -60,7 +60,7 @@ where
 /// Accepts a link, and starts its thread. A seat is free before a link is accepted.
 fn accept_one<'s, E, R: Threads + Wait + Sync, N: Net, K: Clock + Sync, G: Gate + Sync>(
     scope: &Scope<'s, E>,
-    host: &'s Host<'s, R, K, G>,
+    server: &'s Server<'s, R, K, G>,
     net: &mut N,
     door: &mut N::Door,
     seats: &mut [Seat<N::Link>],
@@ -68,17 +68,17 @@ fn accept_one<'s, E, R: Threads + Wait + Sync, N: Net, K: Clock + Sync, G: Gate 
 ) -> Result<(), NetFault>
 where
     N::Link: 's,
-    requires order { AreInOrder (directory_id host.now.directory.now)
+    requires order { AreInOrder (directory_id server.now.directory.now)
         (N.served net.old) (map seat_of seats.old) }
     ensures accounts { AcceptsLinks
         (seen_by N.Link.bytes_left N.Link.bytes_read N.Link.bytes_held
         N.Link.read_fault_count N.Link.write_fault_count)
-        host.entry.now.access.now (directory_id host.entry.now.directory.now)
+        server.entry.now.access.now (directory_id server.entry.now.directory.now)
         (λ k. OnOk result (k ≡ 1))
         (N.served net.old) (map seat_of seats.old) (N.served net.new) (map seat_of seats.new) }
     ensures faults { CountsFaults result (N.net_fault_count net.old) (N.net_fault_count net.new) }
 {
-    let place = wait_for_seat(host, net, seats);
+    let place = wait_for_seat(server, net, seats);
     let link = match net.accept(door) {
         Ok(link) => link,
         Err(fault) => return Err(fault),
@@ -86,7 +86,7 @@ where
     let Seat::Free(pass) = mem::replace(&mut seats[place], Seat::Vacant) else {
         unreachable!()
     };
-    match start::<_, R, N, K, G>(scope, host, place, number, pass, link) {
+    match start::<_, R, N, K, G>(scope, server, place, number, pass, link) {
         Ok(child) => seats[place] = Seat::Busy(child),
         Err(served) => {
             let EndedConnection {
@@ -104,7 +104,7 @@ where
 /// Accepts n links, or links without end where n is 0.
 fn accept_all<'s, E, R: Threads + Wait + Sync, N: Net, K: Clock + Sync, G: Gate + Sync>(
     scope: &Scope<'s, E>,
-    host: &'s Host<'s, R, K, G>,
+    server: &'s Server<'s, R, K, G>,
     net: &mut N,
     door: &mut N::Door,
     seats: &mut [Seat<N::Link>],
@@ -112,23 +112,23 @@ fn accept_all<'s, E, R: Threads + Wait + Sync, N: Net, K: Clock + Sync, G: Gate 
 ) -> Result<(), NetFault>
 where
     N::Link: 's,
-    requires order { AreInOrder (directory_id host.now.directory.now)
+    requires order { AreInOrder (directory_id server.now.directory.now)
         (N.served net.old) (map seat_of seats.old) }
     ensures accounts { AcceptsLinks
         (seen_by N.Link.bytes_left N.Link.bytes_read N.Link.bytes_held
         N.Link.read_fault_count N.Link.write_fault_count)
-        host.entry.now.access.now (directory_id host.entry.now.directory.now)
+        server.entry.now.access.now (directory_id server.entry.now.directory.now)
         (λ k. IsAll result connections k)
         (N.served net.old) (map seat_of seats.old) (N.served net.new) (map seat_of seats.new) }
     ensures faults { CountsFaults result (N.net_fault_count net.old) (N.net_fault_count net.new) }
 {
     let mut number: u64 = 0;
-    for _ in host.rt.forever() {
+    for _ in server.rt.forever() {
         if connections != 0 && number == connections {
             return Ok(());
         }
         number = number.saturating_add(1);
-        match accept_one(scope, host, net, door, seats, number) {
+        match accept_one(scope, server, net, door, seats, number) {
             Ok(()) => {}
             Err(fault) => return Err(fault),
         }
@@ -138,20 +138,20 @@ where
 
 /// Serves the links of a door, and frees all seats.
 pub(crate) fn serve_links<R: Threads + Wait + Sync, N: Net, K: Clock + Sync, G: Gate + Sync>(
-    host: &Host<'_, R, K, G>,
+    server: &Server<'_, R, K, G>,
     net: &mut N,
     door: N::Door,
     seats: Vec<Seat<N::Link>>,
     connections: u64,
 ) -> (Result<(), NetFault>, Vec<Seat<N::Link>>)
-    requires order { AreInOrder (directory_id host.now.directory.now)
+    requires order { AreInOrder (directory_id server.now.directory.now)
         (N.served net.old) (map seat_of seats.items) }
     ensures count { length result.1.items ≡ length seats.items }
     ensures free { AllFree (map seat_of result.1.items) }
     ensures accounts { AcceptsLinks
         (seen_by N.Link.bytes_left N.Link.bytes_read N.Link.bytes_held
         N.Link.read_fault_count N.Link.write_fault_count)
-        host.entry.now.access.now (directory_id host.entry.now.directory.now)
+        server.entry.now.access.now (directory_id server.entry.now.directory.now)
         (λ k. IsAll result.0 connections k)
         (N.served net.old) (map seat_of seats.items)
         (N.served net.new) (map seat_of result.1.items) }
@@ -159,9 +159,9 @@ pub(crate) fn serve_links<R: Threads + Wait + Sync, N: Net, K: Clock + Sync, G: 
 {
     let (accepted, seats, _net) = thread::scope(
         thread::scope_env(),
-        host.rt,
+        server.rt,
         move |scope| -> (Result<(), NetFault>, Vec<Seat<N::Link>>, &mut N)
-            requires { AreInOrder (directory_id host.now.directory.now)
+            requires { AreInOrder (directory_id server.now.directory.now)
                 (N.served net.now) (map seat_of seats.items) }
             ensures same { result.2.ghost_name ≡ net.entry.ghost_name }
             ensures count { length result.1.items ≡ length seats.items }
@@ -169,7 +169,7 @@ pub(crate) fn serve_links<R: Threads + Wait + Sync, N: Net, K: Clock + Sync, G: 
             ensures accounts { AcceptsLinks
                 (seen_by N.Link.bytes_left N.Link.bytes_read N.Link.bytes_held
                 N.Link.read_fault_count N.Link.write_fault_count)
-                host.entry.now.access.now (directory_id host.entry.now.directory.now)
+                server.entry.now.access.now (directory_id server.entry.now.directory.now)
                 (λ k. IsAll result.0 connections k)
                 (N.served net.entry.now) (map seat_of seats.items)
                 (N.served result.2.now) (map seat_of result.1.items) }
@@ -178,43 +178,11 @@ pub(crate) fn serve_links<R: Threads + Wait + Sync, N: Net, K: Clock + Sync, G: 
         {
             let mut door = door;
             let mut seats = seats;
-            let accepted = accept_and_free(
-                scope,
-                host,
-                net,
-                &mut door,
-                seats.as_mut_slice(),
-                connections,
-            );
+            let places = seats.as_mut_slice();
+            let accepted = accept_all(scope, server, net, &mut door, places, connections);
+            free_all(server, net, places);
             (accepted, seats, net)
         },
     );
     (accepted, seats)
-}
-
-/// Accepts links, and then frees all seats.
-fn accept_and_free<'s, E, R: Threads + Wait + Sync, N: Net, K: Clock + Sync, G: Gate + Sync>(
-    scope: &Scope<'s, E>,
-    host: &'s Host<'s, R, K, G>,
-    net: &mut N,
-    door: &mut N::Door,
-    seats: &mut [Seat<N::Link>],
-    connections: u64,
-) -> Result<(), NetFault>
-where
-    N::Link: 's,
-    requires order { AreInOrder (directory_id host.now.directory.now)
-        (N.served net.old) (map seat_of seats.old) }
-    ensures free { AllFree (map seat_of seats.new) }
-    ensures accounts { AcceptsLinks
-        (seen_by N.Link.bytes_left N.Link.bytes_read N.Link.bytes_held
-        N.Link.read_fault_count N.Link.write_fault_count)
-        host.entry.now.access.now (directory_id host.entry.now.directory.now)
-        (λ k. IsAll result connections k)
-        (N.served net.old) (map seat_of seats.old) (N.served net.new) (map seat_of seats.new) }
-    ensures faults { CountsFaults result (N.net_fault_count net.old) (N.net_fault_count net.new) }
-{
-    let accepted = accept_all(scope, host, net, door, seats, connections);
-    free_all(host, net, seats);
-    accepted
 }

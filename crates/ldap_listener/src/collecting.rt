@@ -7,8 +7,8 @@ ghost use Rattle.ldap_listener.specs.SeatsOfCode.{seat_of};
 ghost use Rattle.ldap_listener.specs.Sessions.{seen_by};
 
 use crate::ended_connection::EndedConnection;
-use crate::host::Host;
 use crate::seat::Seat;
+use crate::server::Server;
 use ldap_server::Gate;
 use std::mem;
 use std::sync::Wait;
@@ -17,18 +17,18 @@ use sync_io::{Clock, Net};
 
 /// Waits for the thread of a seat that is busy, releases its link, and then frees the seat.
 fn free_seat<R: Threads + Wait, N: Net, K: Clock, G: Gate>(
-    host: &Host<'_, R, K, G>,
+    server: &Server<'_, R, K, G>,
     net: &mut N,
     seats: &mut [Seat<N::Link>],
     place: usize,
 )
     requires place { place < length seats.old }
-    requires order { AreInOrder (directory_id host.now.directory.now)
+    requires order { AreInOrder (directory_id server.now.directory.now)
         (N.served net.old) (map seat_of seats.old) }
     ensures accounts { KeepsAccounts
         (seen_by N.Link.bytes_left N.Link.bytes_read N.Link.bytes_held
         N.Link.read_fault_count N.Link.write_fault_count)
-        host.entry.now.access.now (directory_id host.entry.now.directory.now) 0
+        server.entry.now.access.now (directory_id server.entry.now.directory.now) 0
         (N.served net.old) (map seat_of seats.old) (N.served net.new) (map seat_of seats.new) }
     ensures free { IsFreeAt (map seat_of seats.new) place }
     ensures kept { (k : ℕ) → IsFreeAt (map seat_of seats.old) k
@@ -41,7 +41,7 @@ fn free_seat<R: Threads + Wait, N: Net, K: Clock, G: Gate>(
                 pass,
                 link,
                 ended: _,
-            } = child.join(host.rt);
+            } = child.join(server.rt);
             net.release(link);
             seats[place] = Seat::Free(pass);
         }
@@ -51,71 +51,71 @@ fn free_seat<R: Threads + Wait, N: Net, K: Clock, G: Gate>(
 
 /// Frees the seats for which the bell has rung.
 pub(crate) fn free_rung<R: Threads + Wait, N: Net, K: Clock, G: Gate>(
-    host: &Host<'_, R, K, G>,
+    server: &Server<'_, R, K, G>,
     net: &mut N,
     seats: &mut [Seat<N::Link>],
 )
-    requires order { AreInOrder (directory_id host.now.directory.now)
+    requires order { AreInOrder (directory_id server.now.directory.now)
         (N.served net.old) (map seat_of seats.old) }
     ensures accounts { KeepsAccounts
         (seen_by N.Link.bytes_left N.Link.bytes_read N.Link.bytes_held
         N.Link.read_fault_count N.Link.write_fault_count)
-        host.entry.now.access.now (directory_id host.entry.now.directory.now) 0
+        server.entry.now.access.now (directory_id server.entry.now.directory.now) 0
         (N.served net.old) (map seat_of seats.old) (N.served net.new) (map seat_of seats.new) }
     ensures faults { N.net_fault_count net.new ≡ N.net_fault_count net.old }
 {
     for place in 0..seats.len() {
-        if host.bell.has_rung(place) {
-            free_seat(host, net, seats, place);
+        if server.bell.has_rung(place) {
+            free_seat(server, net, seats, place);
         }
     }
 }
 
 /// Frees all seats.
 pub(crate) fn free_all<R: Threads + Wait, N: Net, K: Clock, G: Gate>(
-    host: &Host<'_, R, K, G>,
+    server: &Server<'_, R, K, G>,
     net: &mut N,
     seats: &mut [Seat<N::Link>],
 )
-    requires order { AreInOrder (directory_id host.now.directory.now)
+    requires order { AreInOrder (directory_id server.now.directory.now)
         (N.served net.old) (map seat_of seats.old) }
     ensures accounts { KeepsAccounts
         (seen_by N.Link.bytes_left N.Link.bytes_read N.Link.bytes_held
         N.Link.read_fault_count N.Link.write_fault_count)
-        host.entry.now.access.now (directory_id host.entry.now.directory.now) 0
+        server.entry.now.access.now (directory_id server.entry.now.directory.now) 0
         (N.served net.old) (map seat_of seats.old) (N.served net.new) (map seat_of seats.new) }
     ensures free { AllFree (map seat_of seats.new) }
     ensures faults { N.net_fault_count net.new ≡ N.net_fault_count net.old }
 {
     for place in 0..seats.len() {
-        free_seat(host, net, seats, place);
+        free_seat(server, net, seats, place);
     }
 }
 
 /// Waits until a seat is free.
 pub(crate) fn wait_for_seat<R: Threads + Wait, N: Net, K: Clock, G: Gate>(
-    host: &Host<'_, R, K, G>,
+    server: &Server<'_, R, K, G>,
     net: &mut N,
     seats: &mut [Seat<N::Link>],
 ) -> usize
-    requires order { AreInOrder (directory_id host.now.directory.now)
+    requires order { AreInOrder (directory_id server.now.directory.now)
         (N.served net.old) (map seat_of seats.old) }
     ensures accounts { KeepsAccounts
         (seen_by N.Link.bytes_left N.Link.bytes_read N.Link.bytes_held
         N.Link.read_fault_count N.Link.write_fault_count)
-        host.entry.now.access.now (directory_id host.entry.now.directory.now) 0
+        server.entry.now.access.now (directory_id server.entry.now.directory.now) 0
         (N.served net.old) (map seat_of seats.old) (N.served net.new) (map seat_of seats.new) }
     ensures place { result < length seats.new }
     ensures free { IsFreeAt (map seat_of seats.new) result }
     ensures faults { N.net_fault_count net.new ≡ N.net_fault_count net.old }
 {
-    for _ in host.rt.forever() {
-        let count = host.bell.count();
-        free_rung(host, net, seats);
+    for _ in server.rt.forever() {
+        let count = server.bell.count();
+        free_rung(server, net, seats);
         if let Some(place) = seats.iter().position(|seat| seat.is_free()) {
             return place;
         }
-        host.bell.wait(host.rt, count);
+        server.bell.wait(server.rt, count);
     }
     unreachable!()
 }

@@ -6,13 +6,15 @@
 
 mod accepting;
 mod bell;
+mod beside;
 mod collecting;
 mod ended_connection;
-mod host;
 mod listening;
 mod seat;
+mod server;
 mod serving;
 
+pub use beside::{Replicated, serve_replica};
 pub use ended_connection::{EndedConnection, ServesOne};
 pub use listening::{Limits, serve_directory};
 pub use seat::Seat;

@@ -1,7 +1,7 @@
 //! A directory whose connections are served.
 
-ghost use Rattle.std.specs.Prelude.{◌≡◌, ◌≤◌, ℕ, [], length, map, vec_capacity, IfOk, IsErrOf, OnErr};
-ghost use Rattle.shared_directory.specs.Passes.{directory_id, ports_of};
+ghost use Rattle.std.specs.Prelude.{◌≡◌, ◌≤◌, ◌+◌, ◌++◌, ◌∷◌, ℕ, [], length, map, vec_capacity, IfOk, IsErrOf, OnErr};
+ghost use Rattle.shared_directory.specs.Passes.{IsPassOf, directory_id, ports_of};
 ghost use Rattle.sync_io.specs.Faults.{CountHasRisen};
 ghost use Rattle.ldap_listener.specs.Seats.{AllFree, AllSeated};
 ghost use Rattle.ldap_listener.specs.SeatsOfCode.{seat_of, seat_of_pass};
@@ -10,8 +10,8 @@ ghost use Rattle.ldap_listener.specs.Sessions.{seen_by};
 
 use crate::accepting::serve_links;
 use crate::bell::Bell;
-use crate::host::Host;
 use crate::seat::Seat;
+use crate::server::Server;
 use ldap_ber::NoMemory;
 use ldap_server::{Access, Gate};
 use shared_directory::{DirectoryPass, SharedDirectory};
@@ -31,7 +31,7 @@ pub struct Limits {
 }
 
 /// Free seats, one for each pass.
-fn free_seats<N: Net>(
+pub(crate) fn free_seats<N: Net>(
     alloc: Global,
     passes: Vec<DirectoryPass>,
 ) -> Result<Vec<Seat<N::Link>>, NoMemory>
@@ -49,7 +49,8 @@ fn passes_of<N: Net>(seats: Vec<Seat<N::Link>>, room: Vec<DirectoryPass>) -> Vec
     requires free { AllFree (map seat_of seats.items) }
     requires empty { room.items ≡ [] }
     requires room { length seats.items ≤ vec_capacity room }
-    ensures { map seat_of_pass result.items ≡ map seat_of seats.items }
+    ensures passes { map seat_of_pass result.items ≡ map seat_of seats.items }
+    ensures capacity { vec_capacity result ≡ vec_capacity room }
 {
     let mut passes = room;
     for seat in seats {
@@ -100,6 +101,30 @@ fn close_seats<N: Net>(
     }
 }
 
+/// The provider of a directory all of whose seats are free, with the pass of one more port. There
+/// is room for all passes in the list.
+pub(crate) fn close_all<N: Net>(
+    directory: SharedDirectory,
+    seats: Vec<Seat<N::Link>>,
+    pass: DirectoryPass,
+    room: Vec<DirectoryPass>,
+) -> Provider
+    requires seated { AllSeated (directory_id directory) (map seat_of seats.items) }
+    requires free { AllFree (map seat_of seats.items) }
+    requires pass { IsPassOf (directory_id directory) pass }
+    requires count { length seats.items + 1 ≡ ports_of directory }
+    requires empty { room.items ≡ [] }
+    requires room { length seats.items + 1 ≤ vec_capacity room }
+    ensures { AreClosed directory (map seat_of seats.items ++ seat_of_pass pass ∷ []) result }
+{
+    let mut passes = passes_of::<N>(seats, room);
+    passes.push_reserved(pass);
+    match directory.close(passes) {
+        Ok(provider) => provider,
+        Err(_) => unreachable!(),
+    }
+}
+
 /// Serves the links of a door, each on a thread of its own, over the provider's directory, and
 /// gives the provider back. The second part says whether the net failed. It is `NoMemory` only
 /// before the first link is asked for.
@@ -136,7 +161,7 @@ pub fn serve_directory<R: Threads + Wait + Sync, N: Net, K: Clock + Sync, G: Gat
     let Ok((directory, seats)) = open_seats::<N>(alloc, provider, limits.seats) else {
         return Err(AllocError);
     };
-    let host = Host {
+    let server = Server {
         rt,
         alloc,
         directory: &directory,
@@ -145,7 +170,7 @@ pub fn serve_directory<R: Threads + Wait + Sync, N: Net, K: Clock + Sync, G: Gat
         gate,
         bell: &bell,
     };
-    let (accepted, seats) = serve_links(&host, net, door, seats, limits.connections);
-    drop(host);
+    let (accepted, seats) = serve_links(&server, net, door, seats, limits.connections);
+    drop(server);
     Ok((close_seats::<N>(directory, seats, room), accepted))
 }

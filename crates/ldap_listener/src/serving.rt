@@ -8,7 +8,7 @@ ghost use Rattle.ldap_server.specs.Session.{fresh};
 ghost use Rattle.ldap_listener.specs.Sessions.{HasServed, seen_by};
 
 use crate::ended_connection::EndedConnection;
-use crate::host::Host;
+use crate::server::Server;
 use ldap_ber::NoMemory;
 use ldap_server::{Access, Connection, Ended, Gate, serve_connection};
 use shared_directory::{Desk, DirectoryPass};
@@ -30,19 +30,19 @@ fn copy_of(access: &Access) -> Result<Access, NoMemory>
 
 /// A session that has just begun, or the desk where memory runs out.
 fn begin<'a, R: Wait, K: Clock, G: Gate>(
-    host: &Host<'a, R, K, G>,
+    server: &Server<'a, R, K, G>,
     desk: Desk<'a, R>,
 ) -> Result<Connection<Desk<'a, R>>, Desk<'a, R>>
     ensures ok { IfOk result (λ connection. connected_by (λ d. port_of (view_or d.pass)) connection
-        ≡ fresh (port_of (view_or desk.entry.pass)) host.entry.now.access.now) }
+        ≡ fresh (port_of (view_or desk.entry.pass)) server.entry.now.access.now) }
     ensures home { IfOk result (λ connection.
         home_in (λ d. d.directory.now) connection ≡ desk.entry.directory.now) }
     ensures err { IfErr result (λ refused. refused ≡ desk.entry) }
 {
-    let Ok(access) = copy_of(host.access) else {
+    let Ok(access) = copy_of(server.access) else {
         return Err(desk);
     };
-    match Connection::new(host.alloc, desk, access) {
+    match Connection::new(server.alloc, desk, access) {
         Ok(connection) => Ok(connection),
         Err((_, desk)) => Err(desk),
     }
@@ -50,29 +50,29 @@ fn begin<'a, R: Wait, K: Clock, G: Gate>(
 
 /// Serves a connection to its end over the port of a pass, which it gives back.
 fn serve_link<R: Wait, L: Link, K: Clock, G: Gate>(
-    host: &Host<'_, R, K, G>,
+    server: &Server<'_, R, K, G>,
     number: u64,
     pass: DirectoryPass,
     link: &mut L,
 ) -> (DirectoryPass, Ended)
-    requires pass { IsPassOf (directory_id host.now.directory.now) pass }
-    ensures pass { IsPassOf (directory_id host.entry.now.directory.now) result.0 }
+    requires pass { IsPassOf (directory_id server.now.directory.now) pass }
+    ensures pass { IsPassOf (directory_id server.entry.now.directory.now) result.0 }
     ensures served { HasServed
         (seen_by L.bytes_left L.bytes_read L.bytes_held L.read_fault_count L.write_fault_count)
-        host.entry.now.access.now (port_of (view_of pass)) link.old
+        server.entry.now.access.now (port_of (view_of pass)) link.old
         (port_of (view_of result.0)) link.new }
 {
-    let desk = host.directory.desk(host.rt, pass);
-    match begin(host, desk) {
+    let desk = server.directory.desk(server.rt, pass);
+    match begin(server, desk) {
         Ok(connection) => {
             let mut connection = connection;
             let ended = serve_connection(
-                host.rt,
+                server.rt,
                 number,
                 &mut connection,
                 link,
-                host.clock,
-                host.gate,
+                server.clock,
+                server.gate,
             );
             (connection.into_port().leave(), ended)
         }
@@ -82,21 +82,21 @@ fn serve_link<R: Wait, L: Link, K: Clock, G: Gate>(
 
 /// Serves a connection to its end, and rings.
 pub(crate) fn serve_one<R: Wait, L: Link, K: Clock, G: Gate>(
-    host: &Host<'_, R, K, G>,
+    server: &Server<'_, R, K, G>,
     place: usize,
     number: u64,
     pass: DirectoryPass,
     link: L,
 ) -> EndedConnection<L>
-    requires pass { IsPassOf (directory_id host.now.directory.now) pass }
-    ensures pass { IsPassOf (directory_id host.entry.now.directory.now) result.pass }
+    requires pass { IsPassOf (directory_id server.now.directory.now) pass }
+    ensures pass { IsPassOf (directory_id server.entry.now.directory.now) result.pass }
     ensures served { HasServed
         (seen_by L.bytes_left L.bytes_read L.bytes_held L.read_fault_count L.write_fault_count)
-        host.entry.now.access.now (port_of (view_of pass)) link
+        server.entry.now.access.now (port_of (view_of pass)) link
         (port_of (view_of result.pass)) result.link }
 {
     let mut link = link;
-    let (pass, ended) = serve_link(host, number, pass, &mut link);
-    host.bell.ring(place);
+    let (pass, ended) = serve_link(server, number, pass, &mut link);
+    server.bell.ring(place);
     EndedConnection { pass, link, ended }
 }

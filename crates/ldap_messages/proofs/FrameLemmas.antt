@@ -43,6 +43,7 @@ frame_only (b ∷ ds) body after h small = elim h [
       rw (le-ltb b 128 low, ne_eqb b 128 (omega arith), le-ltb 132 b s.1, le-ltb (length (ds ++ (body ++ after))) (b - 128) counted, p.0, f) (ap (λ (n : ℕ). Held n) same)
 ]
 
+-- an element that is short enough is a frame, whatever follows
 pub frame_there : (prefix after body : List ℕ) → Begins prefix 48 body [] → length body ≤ 4194304 → frame_at (prefix ++ after) ≡ Held (length prefix)
 frame_there prefix after body h small =
     let parts : prefix ++ after ≡ 48 ∷ (h.octets ++ (body ++ after)) = ap (λ (x : List ℕ). x ++ after) (h.parts ∙ ap (λ (x : List ℕ). 48 ∷ (h.octets ++ x)) (append-nil body)) ∙ ap (λ (x : List ℕ). 48 ∷ x) (append_assoc h.octets body after) in
@@ -134,10 +135,12 @@ read_only prefix after m h =
     let body : Begins prefix 48 b.0 [] = b.2 in
     rw (frame_there prefix after b.0 body (h.1 b.0 body), take-append_seam prefix after, w) refl
 
+-- a message that was read is spelled by the first bytes
 pub found_meaning : (bytes : List ℕ) (r : Result (Option (Message × ℕ)) MessageFault) → HasMeaning r (read_of bytes) → IfOk r (λ o. IfSome o (λ x. Spells (take x.1 bytes) (message_value x.0)))
 found_meaning bytes (Ok None) h = tt
 found_meaning bytes (Ok (Some x)) h = read_found bytes (message_value x.0) x.1 h
 found_meaning bytes (Err e) h = tt
 
+-- bytes that begin with a spelling are read as its message
 pub only_meaning : (result : Result (Option (Message × ℕ)) MessageFault) (bytes : List ℕ) (whole : MessageValue) (prefix after : List ℕ) → HasMeaning result (read_of bytes) → bytes ≡ prefix ++ after → Spells prefix whole → HasMeaning result (message whole (length prefix))
 only_meaning result bytes whole prefix after t e h = subst (λ (r : Read). HasMeaning result r) (ap read_of e ∙ read_only prefix after whole h) t

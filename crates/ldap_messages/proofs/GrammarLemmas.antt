@@ -2,9 +2,9 @@
 use Rattle.std.proofs.Common.{ℕ, zero, suc, ◌≤◌, List, [], Option, Some, None, Result, Ok, Err, arith}
 use Rattle.std.specs.Prelude.{IfOk, IfSome}
 use Rattle.ldap_ber.specs.Form.{Many}
-use Rattle.ldap_filter.specs.FilterTree.{FilterTree, Trees, all_of, any_of, negated, equal, substrings, at_least, at_most, present, approx, extensible, no_trees, more_trees, depth, deepest}
+use Rattle.ldap_filter.specs.FilterTree.{FilterTree, Trees, all_of, any_of, negated, equal, substrings, at_least, at_most, present, approx, extensible, no_trees, more_trees, depth, deepest, listed}
 use Rattle.ldap_parts.specs.Components.{IsInRange, RangeForm}
-use Rattle.ldap_parts.specs.Filters.{listed, FilterIn}
+use Rattle.ldap_parts.specs.Filters.{FilterIn}
 use Rattle.ldap_messages.specs.declared.fault.MessageFault.{MessageFault}
 use Rattle.ldap_messages.specs.declared.message.Message.{Message}
 use Rattle.ldap_messages.specs.Search.{SearchBounds, SearchBoundsForm}
@@ -79,6 +79,7 @@ message_is bytes rest whole h =
     let beyond = h.3.2 in
     (id.1, operation_is whole.1.0 _ _ beyond.1)
 
+-- a message that was read is of the grammar
 pub grammar_meaning : (result : Result (Option (Message × ℕ)) MessageFault) (bytes : List ℕ) → HasMeaning result (read_of bytes) → IfOk result (λ o. IfSome o (λ x. HasSpelling (message_value x.0)))
 grammar_meaning (Ok None) bytes h = tt
 grammar_meaning (Ok (Some x)) bytes h = message_is _ [] (message_value x.0) (read_found bytes (message_value x.0) x.1 h).0

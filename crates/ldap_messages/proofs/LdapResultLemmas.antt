@@ -18,12 +18,14 @@ use Rattle.ldap_messages.proofs.UriLemmas.{uris_exact, uris_spelled}
 
 -- ---- read
 
+-- the reading of a result is exact
 pub ldap_result_exact : Exact LdapResultForm ldap_result_at
 unfolding ldap_result_at
 ldap_result_exact = made_exact ldap_result_parts ldap_result_with (Both (Integer 10) (Both (OctetString 4) (Both (OctetString 4) (Optional 163 (UrisForm 163)))))
     (both_at (number_at 10) (both_at (octet_string_at 4) (both_at (octet_string_at 4) referral_at))) (λ x. refl) (λ y. refl)
     (both_exact _ _ _ _ (number_exact 10) (both_exact _ _ _ _ (octet_string_exact 4) (both_exact _ _ _ _ (octet_string_exact 4) (optional_exact 163 (UrisForm 163) (uris_at 163) (uris_exact 163)))))
 
+-- so is that of a response which is one
 pub response_exact : (tag : ℕ) → Exact (ResponseForm tag) (response_at tag)
 unfolding response_at
 response_exact tag = sequence_exact place_of tag LdapResultForm ldap_result_at ldap_result_exact
@@ -56,6 +58,7 @@ HasCode outcome = FitsSigned w64 outcome.code
 abbrev pub IsLdapResult : LdapResult → Type 0
 IsLdapResult outcome = HasCode outcome × HasReferral outcome
 
+-- the canonical octets of a result spell it where no referral follows
 pub ldap_result_spelled : Spelled LdapResultForm ldap_result_octets IsLdapResult (Lacks 163)
 ldap_result_spelled = record {
   spells = λ outcome rest small sound after.
@@ -64,6 +67,7 @@ ldap_result_spelled = record {
       (integer_spelled 10 (omega arith)) texts_spelled (λ y rest sound after. tt))).spells outcome rest small (sound.0, (tt, (tt, sound.1))) after;
 }
 
+-- so do those of a response which is one
 pub response_spelled : (tag : ℕ) → tag % 32 ≢ 31 → Spelled (ResponseForm tag) (response_octets tag) IsLdapResult Anything
 response_spelled tag low = sequence_spelled tag LdapResultForm ldap_result_octets IsLdapResult (Lacks 163) low ldap_result_spelled (none_next 163)
 
@@ -73,8 +77,10 @@ referral_is : (bytes : List ℕ) (referral : Option (List (List ℕ))) (rest : L
 referral_is bytes None rest h = tt
 referral_is bytes (Some uris) rest h = h.1.2.1
 
+-- a referral of a result has a URI
 pub ldap_result_is : (bytes : List ℕ) (outcome : LdapResult) (rest : List ℕ) → LdapResultForm bytes outcome rest → HasReferral outcome
 ldap_result_is bytes outcome rest h = referral_is _ outcome.referral rest h.2.2.2
 
+-- so has one of a response
 pub response_is : (tag : ℕ) (bytes : List ℕ) (outcome : LdapResult) (rest : List ℕ) → ResponseForm tag bytes outcome rest → HasReferral outcome
 response_is tag bytes outcome rest h = ldap_result_is h.0 outcome _ h.3

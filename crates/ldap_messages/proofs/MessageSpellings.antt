@@ -40,6 +40,7 @@ canonical whole has held small =
     (sequence_spelled 48 (Both (RangeForm 0 2147483647 2) (Both OperationForm ControlsForm)) body_octets SoundBody (Lacks 160) (omega arith) body_spelled (none_next 160))
     tt whole ((omega arith, has.0), ((has.1, held), tt)) small
 
+-- what is written of a message spells it
 pub message_spelled : {E : Type 0} (result : Result (List ℕ) E) (whole : MessageValue) → HasSpelling whole → IfOk result (λ o. o ≡ message_octets whole) → IfOk result IsSmall → IfOk result (λ o. IsHeld whole.1.0) → IfOk result (λ o. MessageForm o whole [])
 message_spelled result whole has is small held = if_written_soundly result (message_octets whole) (IsHeld whole.1.0) (λ o. MessageForm o whole []) is small held (canonical whole has)
 

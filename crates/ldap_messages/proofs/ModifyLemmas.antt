@@ -61,13 +61,16 @@ modify_exact = sequence_exact place_of 102 _ _ (both_exact _ _ _ _ (octet_string
 edit_advances : Advances edit_at
 edit_advances = advances EditForm edit_at edit_exact edit_shortens
 
+-- an edit that was read stands after those before it
 pub edits_go_on : (prefix : List RawEdit) (stop : ℕ) (bytes : List ℕ) (x : RawEdit) (rest : List ℕ) → 0 < length bytes → edit_at stop bytes ≡ Ok (x, rest)
     → with_prefix (prefix ++ x ∷ []) (many_at edit_at stop rest) ≡ with_prefix prefix (many_at edit_at stop bytes)
 edits_go_on prefix stop bytes x rest some h = many_goes_on edit_at edit_advances prefix stop bytes x rest some h
 
+-- where one is refused, all are
 pub edits_fail : (prefix : List RawEdit) (stop : ℕ) (bytes : List ℕ) (e : ℕ) → 0 < length bytes → edit_at stop bytes ≡ Err e → with_prefix prefix (many_at edit_at stop bytes) ≡ Err e
 edits_fail prefix stop bytes e some h = many_fails edit_at edit_advances prefix stop bytes e some h
 
+-- where no byte is left, they are those that were read
 pub edits_end : (prefix : List RawEdit) (stop : ℕ) (bytes : List ℕ) → length bytes ≡ 0 → with_prefix prefix (many_at edit_at stop bytes) ≡ Ok prefix
 edits_end prefix stop bytes none = many_ended edit_at prefix stop bytes none
 

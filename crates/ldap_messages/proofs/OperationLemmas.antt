@@ -238,5 +238,6 @@ operation_only stop bytes (compare_response x) rest h = goes_by (response_at 111
 operation_only stop bytes (extended_response x) rest h = goes_by extended_response_at operation_at stop bytes 120 h.0 rest rest x (extended_response x) h.2 (λ more r. rw r refl) (extended_response_exact.only stop bytes x rest h)
 operation_only stop bytes (intermediate x) rest h = goes_by intermediate_at operation_at stop bytes 121 h.0 rest rest x (intermediate x) h.2 (λ more r. rw r refl) (intermediate_exact.only stop bytes x rest h)
 
+-- whichever operation it is
 pub operation_exact : Exact OperationForm operation_at
 operation_exact = record { found = operation_found; only = operation_only }

@@ -149,5 +149,6 @@ operation_goes (compare_response x) rest small s = (response_spelled 111 (omega 
 operation_goes (extended_response x) rest small s = extended_response_spelled.spells x rest small ((s.1, s.0), (tt, tt)) tt
 operation_goes (intermediate x) rest small s = intermediate_spelled.spells x rest small (tt, tt) tt
 
+-- whichever operation it is
 pub operation_spelled : Spelled OperationForm operation_octets IsSound Anything
 operation_spelled = record { spells = λ op rest small sound after. operation_goes op rest small sound }

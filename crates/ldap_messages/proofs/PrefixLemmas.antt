@@ -9,6 +9,7 @@ use Rattle.ldap_messages.specs.declared.frame.Frame.TheVariants.{Partial}
 use Rattle.ldap_messages.specs.Whole.{MessageValue, MessageForm}
 use Rattle.ldap_messages.specs.Frame.{framed, frame_at, in_frame, read_of, partial, Spells}
 
+-- nothing follows a spelling in another one
 pub one_message : (prefix more : List ℕ) (one other : MessageValue) → MessageForm prefix one [] → MessageForm (prefix ++ more) other [] → more ≡ []
 unfolding MessageForm
 one_message prefix more one other h k = no_prefix prefix more 48 48 h.0 k.0 h.2 k.2
@@ -58,6 +59,7 @@ some_more : (xs : List ℕ) → xs ≢ [] → 0 < length xs
 some_more [] some = absurd (some refl)
 some_more (x ∷ xs) some = omega arith
 
+-- a proper prefix of one is read as no message yet
 pub message_cut : (prefix more : List ℕ) (whole : MessageValue) → Spells (prefix ++ more) whole → more ≢ [] → read_of prefix ≡ partial
 unfolding MessageForm read_of
 message_cut prefix more whole h some =

@@ -17,10 +17,12 @@ uris_there place strings uris h =
 uris_back : (place : ℕ) (strings uris : List (List ℕ)) → AreUris strings uris → uris_among place strings ≡ Ok uris
 uris_back place strings uris h = rw (h.0, ne_eqb (length uris) 0 h.1) refl
 
+-- what is read is what the form says
 pub uris_exact : (tag : ℕ) → Exact (UrisForm tag) (uris_at tag)
 unfolding uris_at
 uris_exact tag = meaning_exact AreUris uris_among (StringsForm tag) (strings_at tag) uris_there uris_back (strings_exact tag)
 
+-- the canonical octets of a list with a URI spell it
 pub uris_spelled : (tag : ℕ) → tag % 32 ≢ 31 → Spelled (UrisForm tag) (uris_octets tag) HaveOne Anything
 uris_spelled tag low =
     meaning_spelled AreUris (StringsForm tag) (strings_octets tag) (Always {X = List (List ℕ)}) Anything (λ (uris : List (List ℕ)). uris) HaveOne

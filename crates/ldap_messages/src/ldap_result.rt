@@ -23,6 +23,7 @@ use std::alloc::Global;
 /// The result of an operation.
 #[derive(Drop)]
 pub struct LdapResult {
+    /// The result code (RFC 4511, appendix A), whatever number came.
     pub code: i64,
     /// The name of the last entry that was found on the way to the one that was asked for.
     pub matched_dn: Octets,

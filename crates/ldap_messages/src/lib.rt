@@ -26,7 +26,7 @@ mod uris;
 pub use bind::Authentication;
 pub use fault::MessageFault;
 pub use laws::{later_bytes_change_nothing, no_message_begins_another};
-pub use ldap_parts::{Control, ControlList};
+pub use ldap_parts::{Control, ControlList, control_named};
 pub use ldap_result::LdapResult;
 pub use message::Message;
 pub use protocol::Protocol;

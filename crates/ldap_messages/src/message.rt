@@ -23,6 +23,7 @@ use ldap_ber::{NoMemory, Octets, Reader, Writer, discard};
 use ldap_parts::{ComponentFault, ControlList, controls_of, put_controls, put_number, range_of};
 use std::alloc::Global;
 
+/// A message: its ID, its operation and its controls (RFC 4511, section 4.1.1).
 #[derive(Drop)]
 pub struct Message {
     /// At most 2,147,483,647.

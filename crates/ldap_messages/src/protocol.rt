@@ -81,6 +81,7 @@ pub enum Protocol {
         value: Octets,
     },
     CompareResponse(LdapResult),
+    /// The message ID of the operation that is to be abandoned.
     AbandonRequest(i64),
     /// One URI at least.
     SearchResultReference(OctetsList),

@@ -22,6 +22,7 @@ unfolding attribute_at
 attribute_exact = made_exact attribute_parts attribute_with (Sequence 48 (Both (OctetString 4) (StringsForm 49))) (sequence_at place_of 48 (both_at (octet_string_at 4) (strings_at 49)))
     (λ x. refl) (λ y. refl) (sequence_exact place_of 48 _ _ (both_exact _ _ _ _ (octet_string_exact 4) (strings_exact 49)))
 
+-- an attribute takes at least one byte
 pub attribute_shortens : Shortens AttributeForm
 attribute_shortens bytes x rest h = Begins-shorter bytes 48 h.0 rest h.2
 
@@ -32,13 +33,16 @@ attributes_exact = list_exact place_of 48 AttributeForm attribute_at attribute_e
 attribute_advances : Advances attribute_at
 attribute_advances = advances AttributeForm attribute_at attribute_exact attribute_shortens
 
+-- one that was read stands after those before it
 pub attributes_go_on : (prefix : List RawAttribute) (stop : ℕ) (bytes : List ℕ) (x : RawAttribute) (rest : List ℕ) → 0 < length bytes → attribute_at stop bytes ≡ Ok (x, rest)
     → with_prefix (prefix ++ x ∷ []) (many_at attribute_at stop rest) ≡ with_prefix prefix (many_at attribute_at stop bytes)
 attributes_go_on prefix stop bytes x rest some h = many_goes_on attribute_at attribute_advances prefix stop bytes x rest some h
 
+-- where one is refused, all are
 pub attributes_fail : (prefix : List RawAttribute) (stop : ℕ) (bytes : List ℕ) (e : ℕ) → 0 < length bytes → attribute_at stop bytes ≡ Err e → with_prefix prefix (many_at attribute_at stop bytes) ≡ Err e
 attributes_fail prefix stop bytes e some h = many_fails attribute_at attribute_advances prefix stop bytes e some h
 
+-- where no byte is left, they are those that were read
 pub attributes_end : (prefix : List RawAttribute) (stop : ℕ) (bytes : List ℕ) → length bytes ≡ 0 → with_prefix prefix (many_at attribute_at stop bytes) ≡ Ok prefix
 attributes_end prefix stop bytes none = many_ended attribute_at prefix stop bytes none
 

@@ -19,6 +19,7 @@ use Rattle.ldap_parts.specs.Components.{IsInRange, RangeForm, FlagForm, OptionFo
 pub octet_string_exact : (tag : ℕ) → Exact (OctetString tag) (octet_string_at tag)
 octet_string_exact tag = reworded_exact place_of (OctetString tag) (octets_at tag) (octets_exact tag)
 
+-- an octet string takes at least one byte
 pub string_shortens : (tag : ℕ) → Shortens (OctetString tag)
 string_shortens tag bytes x rest h = Begins-shorter bytes tag x rest h
 
@@ -30,6 +31,7 @@ number_exact tag = reworded_exact place_of (Integer tag) (integer_at tag) (integ
 pub boolean_value_exact : Exact (Boolean 1) boolean_value_at
 boolean_value_exact = reworded_exact place_of (Boolean 1) (boolean_at 1) (boolean_exact 1)
 
+-- the reading of a flag is exact
 pub flag_exact : Exact FlagForm flag_at
 flag_exact = reworded_exact place_of FlagForm (default_at 1 false (boolean_at 1)) (default_exact 1 false (Boolean 1) (boolean_at 1) (boolean_exact 1))
 

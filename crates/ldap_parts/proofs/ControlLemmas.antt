@@ -17,6 +17,7 @@ use Rattle.ldap_parts.proofs.StringLemmas.{all_sound}
 
 -- ---- read
 
+-- the reading of a control is exact
 pub control_exact : Exact ControlForm control_at
 unfolding control_at
 control_exact = made_exact control_parts control_with (Sequence 48 (Both (OctetString 4) (Both FlagForm (OptionForm 4)))) (sequence_at place_of 48 (both_at (octet_string_at 4) (both_at flag_at (option_at 4))))
@@ -32,13 +33,16 @@ controls_exact = default_exact 160 [] (ListOf 160 ControlForm) (list_at place_of
 control_advances : Advances control_at
 control_advances = advances ControlForm control_at control_exact control_shortens
 
+-- one that was read stands after those before it
 pub controls_go_on : (prefix : List Control) (stop : ℕ) (bytes : List ℕ) (x : Control) (rest : List ℕ) → 0 < length bytes → control_at stop bytes ≡ Ok (x, rest)
     → with_prefix (prefix ++ x ∷ []) (many_at control_at stop rest) ≡ with_prefix prefix (many_at control_at stop bytes)
 controls_go_on prefix stop bytes x rest some h = many_goes_on control_at control_advances prefix stop bytes x rest some h
 
+-- where one is refused, all are
 pub controls_fail : (prefix : List Control) (stop : ℕ) (bytes : List ℕ) (e : ℕ) → 0 < length bytes → control_at stop bytes ≡ Err e → with_prefix prefix (many_at control_at stop bytes) ≡ Err e
 controls_fail prefix stop bytes e some h = many_fails control_at control_advances prefix stop bytes e some h
 
+-- where no byte is left, they are those that were read
 pub controls_end : (prefix : List Control) (stop : ℕ) (bytes : List ℕ) → length bytes ≡ 0 → with_prefix prefix (many_at control_at stop bytes) ≡ Ok prefix
 controls_end prefix stop bytes none = many_ended control_at prefix stop bytes none
 

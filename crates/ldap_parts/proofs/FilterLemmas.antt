@@ -11,12 +11,13 @@ use Rattle.ldap_ber.proofs.ManyLemmas.{Advances, with_prefix, many_goes_on, many
 use Rattle.ldap_ber.proofs.ExactLemmas.{Exact, Shortens, made_ok, both_exact, meaning_exact, tagged_exact, sequence_exact, list_exact, advances}
 use Rattle.ldap_filter.specs.declared.filter.Filter.{Filter}
 use Rattle.ldap_filter.specs.Pieces.{has_piece}
-use Rattle.ldap_filter.specs.FilterTree.{FilterTree, Trees, all_of, any_of, negated, equal, substrings, at_least, at_most, present, approx, extensible, no_trees, more_trees, trees, tree_of}
+use Rattle.ldap_filter.specs.FilterTree.{FilterTree, all_of, any_of, negated, equal, substrings, at_least, at_most, present, approx, extensible, trees, tree_of, listed}
+use Rattle.ldap_filter.proofs.Rounds.{trees_listed}
 use Rattle.ldap_parts.specs.declared.fault.ComponentFault.{ComponentFault}
 use Rattle.ldap_parts.specs.declared.fault.ComponentFault.TheVariants.{Refused, NoMemory}
 use Rattle.ldap_parts.specs.Faults.{ComponentFails, place_of}
 use Rattle.ldap_parts.specs.Components.{OptionForm, octet_string_at}
-use Rattle.ldap_parts.specs.Filters.{listed, While, while_at, Parts, ArePieces, PiecesForm, SubstringsForm, AssertionForm, FilterIn, pieces_of, parts_at, pieces_at, substrings_at, assertion_at, all_with, any_with, substrings_with, equal_with, at_least_with, at_most_with, approx_with, item_at, filter_in}
+use Rattle.ldap_parts.specs.Filters.{While, while_at, Parts, ArePieces, PiecesForm, SubstringsForm, AssertionForm, FilterIn, pieces_of, parts_at, pieces_at, substrings_at, assertion_at, all_with, any_with, substrings_with, equal_with, at_least_with, at_most_with, approx_with, item_at, filter_in}
 use Rattle.ldap_parts.proofs.ComponentLemmas.{octet_string_exact, string_shortens, option_exact}
 use Rattle.ldap_parts.proofs.WhileLemmas.{and_prefix, while_goes_on, while_fails, while_ended, while_exact}
 
@@ -25,18 +26,22 @@ use Rattle.ldap_parts.proofs.WhileLemmas.{and_prefix, while_goes_on, while_fails
 piece_advances : Advances (octet_string_at 129)
 piece_advances = advances (OctetString 129) (octet_string_at 129) (octet_string_exact 129) (string_shortens 129)
 
+-- at first no piece was read
 pub middle_begins : (read : Result (List (List ℕ) × List ℕ) ℕ) → and_prefix [] read ≡ read
 middle_begins (Ok xs) = refl
 middle_begins (Err e) = refl
 
+-- one that was read stands after those before it
 pub middle_goes_on : (prefix next : List (List ℕ)) (stop after : ℕ) (bytes : List ℕ) (x : List ℕ) (rest : List ℕ) (all : Result (List (List ℕ) × List ℕ) ℕ) → true ≡ has_tag 129 bytes → octet_string_at 129 stop bytes ≡ Ok (x, rest)
     → next ≡ prefix ++ x ∷ [] → after ≡ stop → and_prefix prefix (while_at 129 (octet_string_at 129) stop bytes) ≡ all → and_prefix next (while_at 129 (octet_string_at 129) after rest) ≡ all
 middle_goes_on prefix next stop after bytes x rest all here h n a e = rw (n, a) (while_goes_on 129 (octet_string_at 129) piece_advances prefix stop bytes x rest (sym here) h ∙ e)
 
+-- where one is refused, all are
 pub middle_fails : (prefix : List (List ℕ)) (stop : ℕ) (bytes : List ℕ) (fault : ComponentFault) (all : Result (List (List ℕ) × List ℕ) ℕ) → true ≡ has_tag 129 bytes → ComponentFails fault (octet_string_at 129 stop bytes) → and_prefix prefix (while_at 129 (octet_string_at 129) stop bytes) ≡ all → ComponentFails fault all
 middle_fails prefix stop bytes (Refused place) all here h e = sym e ∙ while_fails 129 (octet_string_at 129) piece_advances prefix stop bytes place (sym here) h
 middle_fails prefix stop bytes NoMemory all here h e = tt
 
+-- where no element has their tag, they are those that were read
 pub middle_ends : (prefix : List (List ℕ)) (stop : ℕ) (bytes : List ℕ) (all : Result (List (List ℕ) × List ℕ) ℕ) → false ≡ has_tag 129 bytes → and_prefix prefix (while_at 129 (octet_string_at 129) stop bytes) ≡ all → all ≡ Ok (prefix, bytes)
 middle_ends prefix stop bytes all none e = sym e ∙ while_ended 129 (octet_string_at 129) prefix stop bytes (sym none)
 
@@ -103,10 +108,7 @@ listed_trees : (ts : List FilterTree) → listed (trees ts) ≡ ts
 listed_trees [] = refl
 listed_trees (t ∷ ts) = ap (λ (us : List FilterTree). t ∷ us) (listed_trees ts)
 
-trees_listed : (ts : Trees) → trees (listed ts) ≡ ts
-trees_listed no_trees = refl
-trees_listed (more_trees t ts) = ap (λ (us : Trees). more_trees t us) (trees_listed ts)
-
+-- a filter takes at least one byte
 pub filter_shortens : (levels : ℕ) → Shortens (FilterIn levels)
 unfolding FilterIn
 filter_shortens zero bytes t rest h = absurd h
@@ -168,12 +170,15 @@ filter_exact (suc d) = record { found = filter_found d (filter_exact d); only = 
 filter_advances : (levels : ℕ) → Advances (filter_in levels)
 filter_advances levels = advances (FilterIn levels) (filter_in levels) (filter_exact levels) (filter_shortens levels)
 
+-- one that was read stands after those before it
 pub filters_go_on : (levels : ℕ) (xs : List Filter) (x : Filter) (stop : ℕ) (bytes rest : List ℕ) → 0 < length bytes → filter_in levels stop bytes ≡ Ok (tree_of x, rest)
     → with_prefix (map tree_of (xs ++ x ∷ [])) (many_at (filter_in levels) stop rest) ≡ with_prefix (map tree_of xs) (many_at (filter_in levels) stop bytes)
 filters_go_on levels xs x stop bytes rest some h = rw (map_push tree_of xs x) (many_goes_on (filter_in levels) (filter_advances levels) (map tree_of xs) stop bytes (tree_of x) rest some h)
 
+-- where one is refused, all are
 pub filters_fail : (levels : ℕ) (prefix : List FilterTree) (stop : ℕ) (bytes : List ℕ) (e : ℕ) → 0 < length bytes → filter_in levels stop bytes ≡ Err e → with_prefix prefix (many_at (filter_in levels) stop bytes) ≡ Err e
 filters_fail levels prefix stop bytes e some h = many_fails (filter_in levels) (filter_advances levels) prefix stop bytes e some h
 
+-- where no byte is left, they are those that were read
 pub filters_end : (levels : ℕ) (prefix : List FilterTree) (stop : ℕ) (bytes : List ℕ) → length bytes ≡ 0 → with_prefix prefix (many_at (filter_in levels) stop bytes) ≡ Ok prefix
 filters_end levels prefix stop bytes none = many_ended (filter_in levels) prefix stop bytes none

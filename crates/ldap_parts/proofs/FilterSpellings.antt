@@ -7,9 +7,9 @@ use Rattle.ldap_ber.specs.Form.{OctetString, Both, Tagged, ListOf}
 use Rattle.ldap_ber.specs.Canonical.{element}
 use Rattle.ldap_ber.proofs.CanonicalLemmas.{Spelled, Anything, Always, Lacks, octets_spelled, both_spelled, meaning_spelled, sequence_spelled, list_spelled, tagged_spelled, none_next}
 use Rattle.ldap_filter.specs.Pieces.{has_piece}
-use Rattle.ldap_filter.specs.FilterTree.{FilterTree, Trees, all_of, any_of, negated, equal, substrings, at_least, at_most, present, approx, extensible, no_trees, more_trees, depth, deepest}
+use Rattle.ldap_filter.specs.FilterTree.{FilterTree, Trees, all_of, any_of, negated, equal, substrings, at_least, at_most, present, approx, extensible, no_trees, more_trees, depth, deepest, listed}
 use Rattle.ldap_parts.specs.Components.{OptionForm, string_octets}
-use Rattle.ldap_parts.specs.Filters.{listed, While, Parts, ArePieces, PiecesForm, SubstringsForm, AssertionForm, FilterIn, pieces_octets, substrings_octets, assertion_octets, filter_octets, filters_octets, have_piece, all_have_piece}
+use Rattle.ldap_parts.specs.Filters.{While, Parts, ArePieces, PiecesForm, SubstringsForm, AssertionForm, FilterIn, pieces_octets, substrings_octets, assertion_octets, filter_octets, filters_octets, have_piece, all_have_piece}
 use Rattle.ldap_parts.proofs.ComponentLemmas.{option_spelled, option_lacks}
 use Rattle.ldap_parts.proofs.WhileLemmas.{strings_while_spelled, strings_lack}
 

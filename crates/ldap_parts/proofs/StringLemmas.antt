@@ -18,10 +18,12 @@ strings_exact tag = list_exact place_of tag (OctetString 4) (octet_string_at 4) 
 string_advances : Advances (octet_string_at 4)
 string_advances = advances (OctetString 4) (octet_string_at 4) (octet_string_exact 4) (string_shortens 4)
 
+-- one that was read stands after those before it
 pub strings_go_on : (prefix : List (List ℕ)) (stop : ℕ) (bytes : List ℕ) (x : List ℕ) (rest : List ℕ) → 0 < length bytes → octet_string_at 4 stop bytes ≡ Ok (x, rest)
     → with_prefix (prefix ++ x ∷ []) (many_at (octet_string_at 4) stop rest) ≡ with_prefix prefix (many_at (octet_string_at 4) stop bytes)
 strings_go_on prefix stop bytes x rest some h = many_goes_on (octet_string_at 4) string_advances prefix stop bytes x rest some h
 
+-- where one is refused, all are
 pub strings_fail : (prefix : List (List ℕ)) (stop : ℕ) (bytes : List ℕ) (e : ℕ) → 0 < length bytes → octet_string_at 4 stop bytes ≡ Err e → with_prefix prefix (many_at (octet_string_at 4) stop bytes) ≡ Err e
 strings_fail prefix stop bytes e some h = many_fails (octet_string_at 4) string_advances prefix stop bytes e some h
 
@@ -31,10 +33,12 @@ pub strings_first : (stop : ℕ) (bytes : List ℕ) (x : List ℕ) (rest : List 
 strings_first stop [] x rest some h = absurd (omega arith)
 strings_first stop (b ∷ bytes) x rest some h = rw (many_next (octet_string_at 4) string_advances stop b bytes, h) refl
 
+-- so it is where the first one is
 pub strings_refused : (stop : ℕ) (bytes : List ℕ) (e : ℕ) → 0 < length bytes → octet_string_at 4 stop bytes ≡ Err e → many_at (octet_string_at 4) stop bytes ≡ Err e
 strings_refused stop [] e some h = absurd (omega arith)
 strings_refused stop (b ∷ bytes) e some h = rw (many_next (octet_string_at 4) string_advances stop b bytes, h) refl
 
+-- no byte spells no strings
 pub strings_none : (stop : ℕ) (bytes : List ℕ) → length bytes ≡ 0 → many_at (octet_string_at 4) stop bytes ≡ Ok []
 strings_none stop [] none = many_none (octet_string_at 4) stop
 strings_none stop (b ∷ bytes) none = absurd (omega arith)
@@ -44,6 +48,7 @@ pub strings_only : (stop : ℕ) (bytes : List ℕ) (x : List ℕ) (rest : List �
     → many_at (octet_string_at 4) stop bytes ≡ Ok (x ∷ [])
 strings_only stop bytes x rest some h none = strings_first stop bytes x rest some h ∙ rw (strings_none stop rest none) refl
 
+-- where no byte is left, they are those that were read
 pub strings_end : (prefix : List (List ℕ)) (stop : ℕ) (bytes : List ℕ) → length bytes ≡ 0 → with_prefix prefix (many_at (octet_string_at 4) stop bytes) ≡ Ok prefix
 strings_end prefix stop bytes none = many_ended (octet_string_at 4) prefix stop bytes none
 

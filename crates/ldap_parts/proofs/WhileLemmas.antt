@@ -41,6 +41,7 @@ while_next tag f adv stop (b ∷ bytes) h =
     let less : length x.1 < length (b ∷ bytes) = adv stop (b ∷ bytes) x.0 x.1 e in
     ap (λ r. r >>= λ xs. Ok (x.0 ∷ xs.0, xs.1)) (while_enough tag f adv (length bytes) (length x.1) stop x.1 (omega arith) (omega arith))))
 
+-- where no element has the tag, there is none
 pub while_none : {X : Type 0} (tag : ℕ) (f : Reading ℕ X) (stop : ℕ) (bytes : List ℕ) → has_tag tag bytes ≡ false → while_at tag f stop bytes ≡ Ok ([], bytes)
 unfolding while_at
 while_none tag f stop [] h = refl
@@ -55,14 +56,17 @@ regroup : {X : Type 0} (prefix : List X) (x : X) (read : Result (List X × List 
 regroup {X} prefix x (Ok xs) = ap (λ (ys : List X). Ok (ys, xs.1)) (simp append_assoc)
 regroup prefix x (Err f) = refl
 
+-- one that was read stands after those before it
 pub while_goes_on : {X : Type 0} (tag : ℕ) (f : Reading ℕ X) → Advances f → (prefix : List X) (stop : ℕ) (bytes : List ℕ) (x : X) (rest : List ℕ) → has_tag tag bytes ≡ true → f stop bytes ≡ Ok (x, rest)
     → and_prefix (prefix ++ x ∷ []) (while_at tag f stop rest) ≡ and_prefix prefix (while_at tag f stop bytes)
 while_goes_on tag f adv prefix stop bytes x rest here h = regroup prefix x (while_at tag f stop rest) ∙ rw (while_next tag f adv stop bytes here, h) refl
 
+-- where one is refused, all are
 pub while_fails : {X : Type 0} (tag : ℕ) (f : Reading ℕ X) → Advances f → (prefix : List X) (stop : ℕ) (bytes : List ℕ) (e : ℕ) → has_tag tag bytes ≡ true → f stop bytes ≡ Err e
     → and_prefix prefix (while_at tag f stop bytes) ≡ Err e
 while_fails tag f adv prefix stop bytes e here h = rw (while_next tag f adv stop bytes here, h) refl
 
+-- where no element has the tag any more, they are those that were read
 pub while_ended : {X : Type 0} (tag : ℕ) (f : Reading ℕ X) (prefix : List X) (stop : ℕ) (bytes : List ℕ) → has_tag tag bytes ≡ false → and_prefix prefix (while_at tag f stop bytes) ≡ Ok (prefix, bytes)
 while_ended {X} tag f prefix stop bytes none = rw (while_none tag f stop bytes none) (ap (λ (ys : List X). Ok (ys, bytes)) (append-nil prefix))
 
@@ -97,6 +101,7 @@ while_only tag R f p short stop bytes [] rest h = rw (while_none tag f stop byte
 while_only tag R f p short stop bytes (x ∷ xs) rest h =
     rw (while_next tag f (advances R f p short) stop bytes (tag_there tag bytes h.0), p.only stop bytes x h.1 h.2, while_only tag R f p short stop h.1 xs rest h.3) refl
 
+-- an exact reading, repeated, is exact
 pub while_exact : {X : Type 0} (tag : ℕ) (R : Form X) (f : Reading ℕ X) → Exact R f → Shortens R → Exact (While tag R) (while_at tag f)
 while_exact tag R f p short = record {
   found = λ stop bytes xs rest h. while_found tag R f p short (length bytes) stop bytes xs rest (omega arith) h;
@@ -112,6 +117,7 @@ strings_go tag low (x ∷ xs) rest small after =
     let again : flat_map (element tag) (x ∷ xs) ++ rest ≡ element tag x ++ (flat_map (element tag) xs ++ rest) = ap (λ (y : List ℕ). y ++ rest) (flat_map-cons (element tag) x xs) ∙ append_assoc (element tag x) (flat_map (element tag) xs) rest in
     rw again (begins_with tag x (flat_map (element tag) xs ++ rest), flat_map (element tag) xs ++ rest, element_spells tag x (flat_map (element tag) xs ++ rest) low (omega (arith, body_size tag x, size)), strings_go tag low xs rest (omega (arith, size)) after)
 
+-- octet strings one after another spell these where no element with their tag follows
 pub strings_while_spelled : (tag : ℕ) → tag % 32 ≢ 31 → Spelled (While tag (OctetString tag)) (flat_map (element tag)) (Always {X = List (List ℕ)}) (Lacks tag)
 strings_while_spelled tag low = record { spells = λ xs rest small sound after. strings_go tag low xs rest small after }
 

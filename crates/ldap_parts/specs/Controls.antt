@@ -1,5 +1,5 @@
 -- Controls of a message (RFC 4511, section 4.1.11).
-use Rattle.std.specs.Prelude.{ℕ, List, [], ◌∷◌, ◌++◌, Bool, false, Option}
+use Rattle.std.specs.Prelude.{ℕ, List, [], ◌∷◌, ◌++◌, Bool, false, Option, bytes_eq, find}
 use Rattle.std.specs.List.{flat_map}
 use Rattle.ldap_ber.specs.Form.{Form, OctetString, Both, Default, MadeOf, Sequence, ListOf}
 use Rattle.ldap_ber.specs.Reading.{Reading, both_at, made_at, default_at, sequence_at, list_at}
@@ -18,6 +18,10 @@ control_with parts = record { name = parts.0; critical = parts.1.0; value = part
 abbrev pub ControlForm : Form Control
 ControlForm =
     MadeOf control_parts (Sequence 48 (Both (OctetString 4) (Both FlagForm (OptionForm 4))))
+
+-- the first control of a name
+abbrev pub control_named : List ℕ → List Control → Option Control
+control_named name controls = find (λ control. bytes_eq control.name name) controls
 
 -- controls [0] Controls OPTIONAL, where absence stands for an empty list
 abbrev pub ControlsForm : Form (List Control)

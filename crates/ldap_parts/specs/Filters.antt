@@ -5,14 +5,10 @@ use Rattle.ldap_ber.specs.Reader.{◌>>=◌, tag_at, has_tag}
 use Rattle.ldap_ber.specs.Form.{Form, OctetString, Both, Meaning, Tagged, Sequence, ListOf}
 use Rattle.ldap_ber.specs.Reading.{Reading, both_at, meaning_at, made_at, tagged_at, sequence_at, list_at}
 use Rattle.ldap_ber.specs.Canonical.{element}
-use Rattle.ldap_filter.specs.FilterTree.{FilterTree, Trees, all_of, any_of, negated, equal, substrings, at_least, at_most, present, approx, extensible, no_trees, more_trees, trees}
+use Rattle.ldap_filter.specs.FilterTree.{FilterTree, Trees, all_of, any_of, negated, equal, substrings, at_least, at_most, present, approx, extensible, no_trees, more_trees, trees, listed}
 use Rattle.ldap_filter.specs.Pieces.{has_piece}
 use Rattle.ldap_parts.specs.Faults.{place_of}
 use Rattle.ldap_parts.specs.Components.{OptionForm, octet_string_at, option_at, string_octets}
-
-abbrev pub listed : Trees → List FilterTree
-listed no_trees = []
-listed (more_trees t ts) = t ∷ listed ts
 
 -- ---- how they are spelled
 

@@ -11,13 +11,14 @@
 
 ghost use Rattle.std.specs.Prelude.{◌≡◌, ◌<◌, [], ◌∷◌, ◌++◌, false, length, Ok, IfOk, OnOk, OnErr};
 ghost use Rattle.std.specs.List.{flat_map};
+ghost use Rattle.std.specs.Option.{option_copied};
 ghost use Rattle.ldap_ber.specs.Canonical.{element, flag_octets};
 ghost use Rattle.ldap_ber.specs.Reading.{many_at};
 ghost use Rattle.ldap_ber.specs.Writer.{after_bytes};
 ghost use Rattle.ldap_ber.specs.Gives.{Gives};
 ghost use Rattle.ldap_parts.specs.Faults.{ComponentFails};
 ghost use Rattle.ldap_parts.specs.Components.{string_octets};
-ghost use Rattle.ldap_parts.specs.Controls.{control_at, controls_at, control_octets, controls_octets};
+ghost use Rattle.ldap_parts.specs.Controls.{control_at, control_named, controls_at, control_octets, controls_octets};
 
 use crate::component::{octet_string_of, option_of, put_option};
 use crate::fault::ComponentFault;
@@ -25,6 +26,7 @@ use ldap_ber::{NoMemory, Octets, Reader, Writer};
 use std::alloc::Global;
 use std::marker::Model;
 
+/// A control (RFC 4511, section 4.1.11).
 #[derive(Drop)]
 pub struct Control {
     /// The control's object identifier.
@@ -82,6 +84,15 @@ impl ControlList {
     {
         self.items.as_slice()
     }
+}
+
+/// The first control of this name, where there is one.
+pub fn control_named<'a>(controls: &'a [Control], name: &[u8]) -> Option<&'a Control>
+    ensures { option_copied result ≡ control_named name.now controls.now }
+{
+    controls
+        .iter()
+        .find(|control| control.name.as_slice() == name)
 }
 
 /// The controls of a message, where they come next, or none (RFC 4511, section 4.1.11). Else it is

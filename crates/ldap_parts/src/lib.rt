@@ -23,7 +23,7 @@ pub use attributes::{attribute_of, attributes_of, put_attribute, put_attributes}
 pub use component::{
     boolean_of, number_of, octet_string_of, option_of, put_number, put_option, range_of,
 };
-pub use control::{Control, ControlList, controls_of, put_controls};
+pub use control::{Control, ControlList, control_named, controls_of, put_controls};
 pub use fault::ComponentFault;
 pub use filter_reading::{assertion_of, filter_of};
 pub use filter_writing::{put_assertion, put_filter};

@@ -7,22 +7,22 @@ use Rattle.ldap_session.specs.Acts.{Act, acts_at, acts_from, end_among, kept_aft
 use Rattle.ldap_session.specs.declared.access.Access.{Access}
 use Rattle.ldap_session.specs.declared.ended.Ended.{Ended}
 use Rattle.ldap_session.specs.declared.ended.Ended.TheVariants.{NoMemory}
-use Rattle.ldap_session.specs.declared.event.Event.{Event}
+use Rattle.ldap_session.specs.declared.event.LinkEvent.{LinkEvent}
 use Rattle.ldap_server.specs.Points.{Point}
-use Rattle.ldap_server.specs.Session.{Connected, Goes, Halts, Heeds, Lives, Runs, point_of}
-use Rattle.ldap_server.proofs.Events.{goes-append, halts-append, halts_more}
+use Rattle.ldap_server.specs.Session.{Connected, DoesActs, RunsOutOfMemory, HandlesEvent, ActsOn, HandlesEvents, point_of}
+use Rattle.ldap_server.proofs.Events.{does-append, halts-append, halts_more, none_some}
 
 -- ---- what was sent before
 
 abbrev after_sent : List ℕ → Point → Point
-after_sent before p = record { port = p.port; standing = p.standing; sent = before ++ p.sent }
+after_sent before p = record { port = p.port; session = p.session; sent = before ++ p.sent }
 
 goes_after : (access : Access) (before : List ℕ) (acts : List Act) (old new : Point)
-    → Goes access old acts new → Goes access (after_sent before old) acts (after_sent before new)
-goes_after access before [] old new goes = ap (λ p. after_sent before p) goes
-goes_after access before (act ∷ acts) old new goes =
-    let s = goes.1 in (
-      after_sent before goes.0,
+    → DoesActs access old acts new → DoesActs access (after_sent before old) acts (after_sent before new)
+goes_after access before [] old new does = ap (λ p. after_sent before p) does
+goes_after access before (act ∷ acts) old new does =
+    let s = does.1 in (
+      after_sent before does.0,
       record {
         asked = s.asked;
         octets = s.octets;
@@ -30,19 +30,19 @@ goes_after access before (act ∷ acts) old new goes =
         exchanged = s.exchanged;
         sent_is = ap (λ xs. before ++ xs) s.sent_is ∙ sym (append_assoc before old.sent s.octets);
       },
-      goes_after access before acts goes.0 new goes.2,
+      goes_after access before acts does.0 new does.2,
     )
 
 -- the same acts where bytes were sent before
 pub goes_from : (access : Access) (old new : Connected) (bytes more : List ℕ) (acts : List Act)
-    → Goes access (point_of old []) acts (point_of new more) → Goes access (point_of old bytes) acts (point_of new (bytes ++ more))
-goes_from access old new bytes more acts goes =
+    → DoesActs access (point_of old []) acts (point_of new more) → DoesActs access (point_of old bytes) acts (point_of new (bytes ++ more))
+goes_from access old new bytes more acts does =
     let from : List ℕ → Point = λ sent. point_of old sent in
-    subst (λ sent. Goes access (from sent) acts (point_of new (bytes ++ more))) (append-nil bytes)
-    (goes_after access bytes acts (point_of old []) (point_of new more) goes)
+    subst (λ sent. DoesActs access (from sent) acts (point_of new (bytes ++ more))) (append-nil bytes)
+    (goes_after access bytes acts (point_of old []) (point_of new more) does)
 
 halts_from : (access : Access) (old new : Connected) (bytes more : List ℕ) (acts : List Act)
-    → Halts access (point_of old []) acts (point_of new more) → Halts access (point_of old bytes) acts (point_of new (bytes ++ more))
+    → RunsOutOfMemory access (point_of old []) acts (point_of new more) → RunsOutOfMemory access (point_of old bytes) acts (point_of new (bytes ++ more))
 halts_from access old new bytes more acts h =
     let from : List ℕ → Point = λ sent. point_of old sent in
     record {
@@ -50,8 +50,8 @@ halts_from access old new bytes more acts h =
       later = h.later;
       acts_are = h.acts_are;
       between = after_sent bytes h.between;
-      goes = subst (λ sent. Goes access (from sent) h.done (after_sent bytes h.between)) (append-nil bytes)
-          (goes_after access bytes h.done (point_of old []) h.between h.goes);
+      does = subst (λ sent. DoesActs access (from sent) h.done (after_sent bytes h.between)) (append-nil bytes)
+          (goes_after access bytes h.done (point_of old []) h.between h.does);
       asked = h.asked;
       exchanged = h.exchanged;
       sent_is = ap (λ xs. bytes ++ xs) h.sent_is;
@@ -60,25 +60,21 @@ halts_from access old new bytes more acts h =
 -- ---- a run of events
 
 -- some of the events have come, and these are left
-pub record Amid (old : Connected) (events left : List Event) (bytes : List ℕ) (now : Connected) : Type 0 where
+pub record Amid (old : Connected) (events left : List LinkEvent) (bytes : List ℕ) (now : Connected) : Type 0 where
   pub access_is : now.access ≡ old.access
   pub goes_on : old.ended ≡ None → now.ended ≡ None → (end : Point)
-      → Goes old.access (point_of now bytes) (until_end (acts_from now.kept left)) end
-      → Goes old.access (point_of old []) (until_end (acts_from old.kept events)) end
+      → DoesActs old.access (point_of now bytes) (until_end (acts_from now.kept left)) end
+      → DoesActs old.access (point_of old []) (until_end (acts_from old.kept events)) end
   pub halts_on : old.ended ≡ None → now.ended ≡ None → (end : Point)
-      → Halts old.access (point_of now bytes) (until_end (acts_from now.kept left)) end
-      → Halts old.access (point_of old []) (until_end (acts_from old.kept events)) end
+      → RunsOutOfMemory old.access (point_of now bytes) (until_end (acts_from now.kept left)) end
+      → RunsOutOfMemory old.access (point_of old []) (until_end (acts_from old.kept events)) end
   pub ends_on : old.ended ≡ None → now.ended ≡ None
       → end_among (acts_from old.kept events) ≡ end_among (acts_from now.kept left)
   pub over : old.ended ≡ None → IsSome now.ended → now.ended ≢ Some NoMemory
-      → Goes old.access (point_of old []) (until_end (acts_from old.kept events)) (point_of now bytes)
+      → DoesActs old.access (point_of old []) (until_end (acts_from old.kept events)) (point_of now bytes)
       × (now.ended ≡ end_among (acts_from old.kept events))
   pub stopped : old.ended ≡ None → now.ended ≡ Some NoMemory
-      → Halts old.access (point_of old []) (until_end (acts_from old.kept events)) (point_of now bytes)
-
-none_some : {X : Type 0} (o : Option X) → o ≡ None → IsSome o → ⊥
-none_some None e s = cc
-none_some (Some x) e s = cc
+      → RunsOutOfMemory old.access (point_of old []) (until_end (acts_from old.kept events)) (point_of now bytes)
 
 some_is : {X : Type 0} (o : Option X) → IsSome o → (x : X) × (o ≡ Some x)
 some_is None s = absurd cc
@@ -88,7 +84,8 @@ is_some_by : {X : Type 0} (o : Option X) (x : X) → o ≡ Some x → IsSome o
 is_some_by None x e = cc
 is_some_by (Some y) x e = refl
 
-pub running_none : (old : Connected) (events : List Event) → Amid old events events [] old
+-- at first all events are still to come
+pub running_none : (old : Connected) (events : List LinkEvent) → Amid old events events [] old
 running_none old events = record {
   access_is = refl;
   goes_on = λ _ _ end h. h;
@@ -100,30 +97,30 @@ running_none old events = record {
 
 -- ---- one event of a session that goes on
 
-step_live : (access : Access) (mid new : Connected) (event : Event) (left : List Event) (bytes out : List ℕ) (end : Point)
-    → Lives access mid.kept event (point_of mid []) new.ended (point_of new out) new.kept → new.ended ≡ None
-    → Goes access (point_of new (bytes ++ out)) (until_end (acts_from new.kept left)) end
-    → Goes access (point_of mid bytes) (until_end (acts_from mid.kept (event ∷ left))) end
+step_live : (access : Access) (mid new : Connected) (event : LinkEvent) (left : List LinkEvent) (bytes out : List ℕ) (end : Point)
+    → ActsOn access mid.kept event (point_of mid []) new.ended (point_of new out) new.kept → new.ended ≡ None
+    → DoesActs access (point_of new (bytes ++ out)) (until_end (acts_from new.kept left)) end
+    → DoesActs access (point_of mid bytes) (until_end (acts_from mid.kept (event ∷ left))) end
 step_live access mid new event left bytes out end v none g =
     let acts : List Act = acts_at mid.kept event in
     rw (until-on acts (acts_from (kept_after mid.kept event) left) (sym v.end ∙ none))
-    (goes-append access (until_end acts) (until_end (acts_from (kept_after mid.kept event) left)) (point_of mid bytes) (point_of new (bytes ++ out)) end
-    (goes_from access mid new bytes out (until_end acts) v.goes)
-    (subst (λ kept. Goes access (point_of new (bytes ++ out)) (until_end (acts_from kept left)) end) (v.rest none) g))
+    (does-append access (until_end acts) (until_end (acts_from (kept_after mid.kept event) left)) (point_of mid bytes) (point_of new (bytes ++ out)) end
+    (goes_from access mid new bytes out (until_end acts) v.does)
+    (subst (λ kept. DoesActs access (point_of new (bytes ++ out)) (until_end (acts_from kept left)) end) (v.rest none) g))
 
-step_halts : (access : Access) (mid new : Connected) (event : Event) (left : List Event) (bytes out : List ℕ) (end : Point)
-    → Lives access mid.kept event (point_of mid []) new.ended (point_of new out) new.kept → new.ended ≡ None
-    → Halts access (point_of new (bytes ++ out)) (until_end (acts_from new.kept left)) end
-    → Halts access (point_of mid bytes) (until_end (acts_from mid.kept (event ∷ left))) end
+step_halts : (access : Access) (mid new : Connected) (event : LinkEvent) (left : List LinkEvent) (bytes out : List ℕ) (end : Point)
+    → ActsOn access mid.kept event (point_of mid []) new.ended (point_of new out) new.kept → new.ended ≡ None
+    → RunsOutOfMemory access (point_of new (bytes ++ out)) (until_end (acts_from new.kept left)) end
+    → RunsOutOfMemory access (point_of mid bytes) (until_end (acts_from mid.kept (event ∷ left))) end
 step_halts access mid new event left bytes out end v none h =
     let acts : List Act = acts_at mid.kept event in
     rw (until-on acts (acts_from (kept_after mid.kept event) left) (sym v.end ∙ none))
     (halts-append access (until_end acts) (until_end (acts_from (kept_after mid.kept event) left)) (point_of mid bytes) (point_of new (bytes ++ out)) end
-    (goes_from access mid new bytes out (until_end acts) v.goes)
-    (subst (λ kept. Halts access (point_of new (bytes ++ out)) (until_end (acts_from kept left)) end) (v.rest none) h))
+    (goes_from access mid new bytes out (until_end acts) v.does)
+    (subst (λ kept. RunsOutOfMemory access (point_of new (bytes ++ out)) (until_end (acts_from kept left)) end) (v.rest none) h))
 
-step_ends : (access : Access) (mid new : Connected) (event : Event) (left : List Event) (out : List ℕ)
-    → Lives access mid.kept event (point_of mid []) new.ended (point_of new out) new.kept → new.ended ≡ None
+step_ends : (access : Access) (mid new : Connected) (event : LinkEvent) (left : List LinkEvent) (out : List ℕ)
+    → ActsOn access mid.kept event (point_of mid []) new.ended (point_of new out) new.kept → new.ended ≡ None
     → end_among (acts_from mid.kept (event ∷ left)) ≡ end_among (acts_from new.kept left)
 step_ends access mid new event left out v none =
     end-on (acts_at mid.kept event) (acts_from (kept_after mid.kept event) left) (sym v.end ∙ none)
@@ -131,35 +128,36 @@ step_ends access mid new event left out v none =
 
 -- ---- one event that ends it
 
-step_over : (access : Access) (mid new : Connected) (event : Event) (left : List Event) (bytes out : List ℕ) (ended : Ended)
-    → Lives access mid.kept event (point_of mid []) new.ended (point_of new out) new.kept → new.ended ≡ Some ended
-    → Goes access (point_of mid bytes) (until_end (acts_from mid.kept (event ∷ left))) (point_of new (bytes ++ out))
+step_over : (access : Access) (mid new : Connected) (event : LinkEvent) (left : List LinkEvent) (bytes out : List ℕ) (ended : Ended)
+    → ActsOn access mid.kept event (point_of mid []) new.ended (point_of new out) new.kept → new.ended ≡ Some ended
+    → DoesActs access (point_of mid bytes) (until_end (acts_from mid.kept (event ∷ left))) (point_of new (bytes ++ out))
     × (new.ended ≡ end_among (acts_from mid.kept (event ∷ left)))
 step_over access mid new event left bytes out ended v some =
     let acts : List Act = acts_at mid.kept event in
     let here : end_among acts ≡ Some ended = sym v.end ∙ some in (
-      rw (until-over acts (acts_from (kept_after mid.kept event) left) ended here) (goes_from access mid new bytes out (until_end acts) v.goes),
+      rw (until-over acts (acts_from (kept_after mid.kept event) left) ended here) (goes_from access mid new bytes out (until_end acts) v.does),
       some ∙ sym (end-over acts (acts_from (kept_after mid.kept event) left) ended here),
     )
 
-step_stopped : (access : Access) (mid new : Connected) (event : Event) (left : List Event) (bytes out : List ℕ)
-    → Halts access (point_of mid []) (until_end (acts_at mid.kept event)) (point_of new out)
-    → Halts access (point_of mid bytes) (until_end (acts_from mid.kept (event ∷ left))) (point_of new (bytes ++ out))
+step_stopped : (access : Access) (mid new : Connected) (event : LinkEvent) (left : List LinkEvent) (bytes out : List ℕ)
+    → RunsOutOfMemory access (point_of mid []) (until_end (acts_at mid.kept event)) (point_of new out)
+    → RunsOutOfMemory access (point_of mid bytes) (until_end (acts_from mid.kept (event ∷ left))) (point_of new (bytes ++ out))
 step_stopped access mid new event left bytes out h =
     halts_more access (acts_at mid.kept event) (acts_from (kept_after mid.kept event) left) (point_of mid bytes) (point_of new (bytes ++ out))
     (halts_from access mid new bytes out (until_end (acts_at mid.kept event)) h)
 
 -- ---- one event more
 
-pub running_one : (old mid new : Connected) (events left : List Event) (event : Event) (bytes out : List ℕ) (ended : Option Ended)
-    → Amid old events (event ∷ left) bytes mid → Heeds mid event out ended new → Amid old events left (bytes ++ out) new
+-- the next event is handled, and what it sends follows what was sent before
+pub running_one : (old mid new : Connected) (events left : List LinkEvent) (event : LinkEvent) (bytes out : List ℕ) (ended : Option Ended)
+    → Amid old events (event ∷ left) bytes mid → HandlesEvent mid event out ended new → Amid old events left (bytes ++ out) new
 running_one old mid new events left event bytes out ended r h = step mid.ended refl
   where
-    lives : mid.ended ≡ None → new.ended ≢ Some NoMemory → Lives old.access mid.kept event (point_of mid []) new.ended (point_of new out) new.kept
-    lives none memory = subst (λ a. Lives a mid.kept event (point_of mid []) new.ended (point_of new out) new.kept) r.access_is (h.live none memory)
+    acts_on : mid.ended ≡ None → new.ended ≢ Some NoMemory → ActsOn old.access mid.kept event (point_of mid []) new.ended (point_of new out) new.kept
+    acts_on none memory = subst (λ a. ActsOn a mid.kept event (point_of mid []) new.ended (point_of new out) new.kept) r.access_is (h.live none memory)
 
-    halts : mid.ended ≡ None → new.ended ≡ Some NoMemory → Halts old.access (point_of mid []) (until_end (acts_at mid.kept event)) (point_of new out)
-    halts none memory = subst (λ a. Halts a (point_of mid []) (until_end (acts_at mid.kept event)) (point_of new out)) r.access_is (h.halts none memory)
+    halts : mid.ended ≡ None → new.ended ≡ Some NoMemory → RunsOutOfMemory old.access (point_of mid []) (until_end (acts_at mid.kept event)) (point_of new out)
+    halts none memory = subst (λ a. RunsOutOfMemory a (point_of mid []) (until_end (acts_at mid.kept event)) (point_of new out)) r.access_is (h.halts none memory)
 
     not_memory : new.ended ≡ None → new.ended ≢ Some NoMemory
     not_memory none memory = let wrong : None ≡ Some NoMemory = sym none ∙ memory in cc
@@ -178,12 +176,12 @@ running_one old mid new events left event bytes out ended r h = step mid.ended r
     step None none =
         record {
           access_is = h.access_is ∙ r.access_is;
-          goes_on = λ live still end g. r.goes_on live none end (step_live old.access mid new event left bytes out end (lives none (not_memory still)) still g);
-          halts_on = λ live still end g. r.halts_on live none end (step_halts old.access mid new event left bytes out end (lives none (not_memory still)) still g);
-          ends_on = λ live still. r.ends_on live none ∙ step_ends old.access mid new event left out (lives none (not_memory still)) still;
+          goes_on = λ live still end g. r.goes_on live none end (step_live old.access mid new event left bytes out end (acts_on none (not_memory still)) still g);
+          halts_on = λ live still end g. r.halts_on live none end (step_halts old.access mid new event left bytes out end (acts_on none (not_memory still)) still g);
+          ends_on = λ live still. r.ends_on live none ∙ step_ends old.access mid new event left out (acts_on none (not_memory still)) still;
           over = λ live some memory.
               let e = some_is new.ended some in
-              let s = step_over old.access mid new event left bytes out e.0 (lives none memory) e.1 in
+              let s = step_over old.access mid new event left bytes out e.0 (acts_on none memory) e.1 in
               (r.goes_on live none (point_of new (bytes ++ out)) s.0, s.1 ∙ sym (r.ends_on live none));
           stopped = λ live memory.
               r.halts_on live none (point_of new (bytes ++ out)) (step_stopped old.access mid new event left bytes out (halts none memory));
@@ -195,10 +193,10 @@ running_one old mid new events left event bytes out ended r h = step mid.ended r
         subst (λ xs. P xs new) (sym all) (subst (λ c. P bytes c) (sym stays.0) (ended_stays e there))
 
 -- all have come
-pub running_all : (old new : Connected) (events : List Event) (bytes : List ℕ) → Amid old events [] bytes new → Runs old events bytes new
+pub running_all : (old new : Connected) (events : List LinkEvent) (bytes : List ℕ) → Amid old events [] bytes new → HandlesEvents old events bytes new
 running_all old new events bytes r = step new.ended refl
   where
-    step : (o : Option Ended) → new.ended ≡ o → Runs old events bytes new
+    step : (o : Option Ended) → new.ended ≡ o → HandlesEvents old events bytes new
     step None none =
         record {
           access_is = r.access_is;

@@ -7,10 +7,10 @@ use Rattle.ldap_session.specs.Incoming.{Incoming, Arrived, Wrong, incoming_in}
 use Rattle.ldap_session.specs.Requests.{Request, Binds, Unbinds, Writes, Compares, Searches, Abandons, Extends, Responds, request_of}
 use Rattle.ldap_session.specs.declared.ended.Ended.{Ended}
 use Rattle.ldap_session.specs.declared.ended.Ended.TheVariants.{EndOfInput, NoMemory}
-use Rattle.ldap_session.specs.declared.event.Event.{Event}
-use Rattle.ldap_session.specs.declared.event.Event.TheVariants.{Piece, Quiet, End}
+use Rattle.ldap_session.specs.declared.event.LinkEvent.{LinkEvent}
+use Rattle.ldap_session.specs.declared.event.LinkEvent.TheVariants.{Piece, Quiet, End}
 use Rattle.ldap_server.specs.Serving.{IsEndAt}
-use Rattle.ldap_server.specs.Session.{Connected, Heeds}
+use Rattle.ldap_server.specs.Session.{Connected, HandlesEvent}
 
 -- no request and no message ends a session as the end of the input does
 request_goes : (r : Request) → end_by r ≢ Some EndOfInput
@@ -41,21 +41,21 @@ piece_goes now (one ∷ more) e = step (end_of (Answers one now)) refl (λ later
     step (Some ended) is later e' = message_goes one now (is ∙ e')
 
 -- the event after which a session ended with the input is the end of the input
-pub ends_at_end : (mid new : Connected) (event : Event) (bytes : List ℕ) (ended : Option Ended) (left : Option (List ℕ))
-    → mid.ended ≡ None → Heeds mid event bytes ended new → IsEndAt event left → new.ended ≡ Some EndOfInput → IsAtEnd left
+pub ends_at_end : (mid new : Connected) (event : LinkEvent) (bytes : List ℕ) (ended : Option Ended) (left : Option (List ℕ))
+    → mid.ended ≡ None → HandlesEvent mid event bytes ended new → IsEndAt event left → new.ended ≡ Some EndOfInput → IsAtEnd left
 ends_at_end mid new event bytes ended left live h at end = step event refl at
   where
     not_memory : new.ended ≢ Some NoMemory
     not_memory memory = let wrong : Some EndOfInput ≡ Some NoMemory = sym end ∙ memory in cc
 
-    step : (e : Event) → event ≡ e → IsEndAt e left → IsAtEnd left
+    step : (e : LinkEvent) → event ≡ e → IsEndAt e left → IsAtEnd left
     step (Piece piece now) is at' =
-        let lives : new.ended ≡ end_among (acts_at mid.kept event) = (h.live live not_memory).end in
-        absurd (piece_goes now (incoming_in (mid.kept ++ piece)) (sym (lives ∙ ap (λ e. end_among (acts_at mid.kept e)) is) ∙ end))
+        let acts_on : new.ended ≡ end_among (acts_at mid.kept event) = (h.live live not_memory).end in
+        absurd (piece_goes now (incoming_in (mid.kept ++ piece)) (sym (acts_on ∙ ap (λ e. end_among (acts_at mid.kept e)) is) ∙ end))
     step Quiet is at' =
-        let lives : new.ended ≡ end_among (acts_at mid.kept event) = (h.live live not_memory).end in
+        let acts_on : new.ended ≡ end_among (acts_at mid.kept event) = (h.live live not_memory).end in
         let ends : end_among (HandsOut ∷ []) ≡ None = rw hands_on refl in
-        let none : new.ended ≡ None = lives ∙ ap (λ e. end_among (acts_at mid.kept e)) is ∙ ends in
+        let none : new.ended ≡ None = acts_on ∙ ap (λ e. end_among (acts_at mid.kept e)) is ∙ ends in
         let wrong : None ≡ Some EndOfInput = sym none ∙ end in
         absurd cc
     step End is at' = at'

@@ -8,29 +8,30 @@ use Rattle.ldap_session.specs.Requests.{Request, Binds, Unbinds, Writes, Compare
 use Rattle.ldap_session.specs.declared.access.Access.{Access}
 use Rattle.ldap_session.specs.declared.ended.Ended.{Ended}
 use Rattle.ldap_session.specs.declared.ended.Ended.TheVariants.{EndOfInput, NoMemory, ProtocolFault, ReadFault, Unbound, WriteFault}
-use Rattle.ldap_session.specs.declared.event.Event.{Event}
-use Rattle.ldap_session.specs.declared.event.Event.TheVariants.{Piece, Quiet, End}
+use Rattle.ldap_session.specs.declared.event.LinkEvent.{LinkEvent}
+use Rattle.ldap_session.specs.declared.event.LinkEvent.TheVariants.{Piece, Quiet, End}
 use Rattle.ldap_server.specs.Following.{IsAnswered}
 use Rattle.ldap_server.specs.Points.{Point}
-use Rattle.ldap_server.specs.Session.{Connected, Goes, Halts, Heeds, Lives, LivesOn, Step, ended_by, point_of}
+use Rattle.ldap_server.specs.Session.{Connected, DoesActs, RunsOutOfMemory, HandlesEvent, ActsOn, ActsOnOrRunsOut, DoesAct, ended_by, point_of}
 
 -- ---- acts one after the other
 
-pub goes-append : (access : Access) (xs ys : List Act) (old between new : Point)
-    → Goes access old xs between → Goes access between ys new → Goes access old (xs ++ ys) new
-goes-append access [] ys old between new first later = subst (λ p. Goes access p ys new) first later
-goes-append access (x ∷ xs) ys old between new first later =
-    (first.0, first.1, goes-append access xs ys first.0 between new first.2 later)
+-- acts that are done after others are done together with them
+pub does-append : (access : Access) (xs ys : List Act) (old between new : Point)
+    → DoesActs access old xs between → DoesActs access between ys new → DoesActs access old (xs ++ ys) new
+does-append access [] ys old between new first later = subst (λ p. DoesActs access p ys new) first later
+does-append access (x ∷ xs) ys old between new first later =
+    (first.0, first.1, does-append access xs ys first.0 between new first.2 later)
 
 -- memory ran out after some acts
 pub halts-append : (access : Access) (xs ys : List Act) (old between new : Point)
-    → Goes access old xs between → Halts access between ys new → Halts access old (xs ++ ys) new
-halts-append access xs ys old between new goes h = record {
+    → DoesActs access old xs between → RunsOutOfMemory access between ys new → RunsOutOfMemory access old (xs ++ ys) new
+halts-append access xs ys old between new does h = record {
   done = xs ++ h.done;
   later = h.later;
   acts_are = ap (λ zs. xs ++ zs) h.acts_are ∙ sym (append_assoc xs h.done h.later);
   between = h.between;
-  goes = goes-append access xs h.done old between h.between goes h.goes;
+  does = does-append access xs h.done old between h.between does h.does;
   asked = h.asked;
   exchanged = h.exchanged;
   sent_is = h.sent_is;
@@ -47,7 +48,7 @@ until-front (x ∷ xs) ys = step (end_of x) (until-front xs ys)
     step (Some ended) (zs, is) = ([], refl)
 
 -- memory ran out in the first of these acts
-pub halts_more : (access : Access) (xs ys : List Act) (old new : Point) → Halts access old (until_end xs) new → Halts access old (until_end (xs ++ ys)) new
+pub halts_more : (access : Access) (xs ys : List Act) (old new : Point) → RunsOutOfMemory access old (until_end xs) new → RunsOutOfMemory access old (until_end (xs ++ ys)) new
 halts_more access xs ys old new h =
     let front = until-front xs ys in
     record {
@@ -55,7 +56,7 @@ halts_more access xs ys old new h =
       later = h.later ++ front.0;
       acts_are = front.1 ∙ ap (λ zs. zs ++ front.0) h.acts_are ∙ append_assoc h.done h.later front.0;
       between = h.between;
-      goes = h.goes;
+      does = h.does;
       asked = h.asked;
       exchanged = h.exchanged;
       sent_is = h.sent_is;
@@ -64,50 +65,38 @@ halts_more access xs ys old new h =
 -- ---- one event
 
 -- a message of a piece ends the session
-pub lives_over : (access : Access) (now : ℕ) (kept piece : List ℕ) (place : ℕ) (ended : Ended) (old new : Point) (left : List ℕ)
-    → IsAnswered access now (kept ++ piece) place (Some ended) old new → Lives access kept (Piece piece now) old (Some ended) new left
-lives_over access now kept piece place ended old new left a =
+pub acts_on_over : (access : Access) (now : ℕ) (kept piece : List ℕ) (place : ℕ) (ended : Ended) (old new : Point) (left : List ℕ)
+    → IsAnswered access now (kept ++ piece) place (Some ended) old new → ActsOn access kept (Piece piece now) old (Some ended) new left
+acts_on_over access now kept piece place ended old new left a =
     let acts : List Act = answers_of now (incoming_in (kept ++ piece)) in
     record {
-      goes = rw (until-over acts (HandsOut ∷ []) ended (sym a.end)) a.goes;
+      does = rw (until-over acts (HandsOut ∷ []) ended (sym a.end)) a.does;
       end = sym (end-over acts (HandsOut ∷ []) ended (sym a.end));
       rest = λ none. absurd cc;
     }
 
--- all of a piece is answered, and then messages are handed out
-pub lives_on : (access : Access) (now : ℕ) (kept piece : List ℕ) (place : ℕ) (old between new : Point) (left : List ℕ)
-    → IsAnswered access now (kept ++ piece) place None old between → Step access between HandsOut new → left ≡ rest_of (kept ++ piece)
-    → Lives access kept (Piece piece now) old None new left
-lives_on access now kept piece place old between new left a s r =
-    let acts : List Act = answers_of now (incoming_in (kept ++ piece)) in
-    record {
-      goes = rw (until-on acts (HandsOut ∷ []) (sym a.end), hands_on) (goes-append access (until_end acts) (HandsOut ∷ []) old between new a.goes (new, s, refl));
-      end = sym (end-on acts (HandsOut ∷ []) (sym a.end) ∙ rw hands_on refl);
-      rest = λ _. r;
-    }
-
 -- messages are handed out at a quiet
-pub lives_quiet : (access : Access) (kept : List ℕ) (old new : Point) → Step access old HandsOut new → Lives access kept Quiet old None new kept
-lives_quiet access kept old new s = record { goes = rw hands_on (new, s, refl); end = rw hands_on refl; rest = λ _. refl }
+pub acts_on_quiet : (access : Access) (kept : List ℕ) (old new : Point) → DoesAct access old HandsOut new → ActsOn access kept Quiet old None new kept
+acts_on_quiet access kept old new s = record { does = rw hands_on (new, s, refl); end = rw hands_on refl; rest = λ _. refl }
 
 -- the input ends
-pub lives_end : (access : Access) (kept left : List ℕ) (old new : Point) → Step access old Leaves new → Lives access kept End old (Some EndOfInput) new left
-lives_end access kept left old new s = record { goes = rw leaves_end (new, s, refl); end = rw leaves_end refl; rest = λ none. absurd cc }
+pub acts_on_end : (access : Access) (kept left : List ℕ) (old new : Point) → DoesAct access old Leaves new → ActsOn access kept End old (Some EndOfInput) new left
+acts_on_end access kept left old new s = record { does = rw leaves_end (new, s, refl); end = rw leaves_end refl; rest = λ none. absurd cc }
 
 -- ---- where memory runs out
 
 -- before the messages of a piece, or in them
 pub halts_piece : (access : Access) (now : ℕ) (kept piece : List ℕ) (old new : Point)
-    → Halts access old (until_end (answers_of now (incoming_in (kept ++ piece)))) new → Halts access old (until_end (acts_at kept (Piece piece now))) new
+    → RunsOutOfMemory access old (until_end (answers_of now (incoming_in (kept ++ piece)))) new → RunsOutOfMemory access old (until_end (acts_at kept (Piece piece now))) new
 halts_piece access now kept piece old new h = halts_more access (answers_of now (incoming_in (kept ++ piece))) (HandsOut ∷ []) old new h
 
 -- in handing out after them
 pub halts_after : (access : Access) (now : ℕ) (kept piece : List ℕ) (place : ℕ) (old between new : Point)
-    → IsAnswered access now (kept ++ piece) place None old between → Halts access between (until_end (acts_at kept Quiet)) new
-    → Halts access old (until_end (acts_at kept (Piece piece now))) new
+    → IsAnswered access now (kept ++ piece) place None old between → RunsOutOfMemory access between (until_end (acts_at kept Quiet)) new
+    → RunsOutOfMemory access old (until_end (acts_at kept (Piece piece now))) new
 halts_after access now kept piece place old between new a h =
     let acts : List Act = answers_of now (incoming_in (kept ++ piece)) in
-    rw (until-on acts (HandsOut ∷ []) (sym a.end)) (halts-append access (until_end acts) (until_end (HandsOut ∷ [])) old between new a.goes h)
+    rw (until-on acts (HandsOut ∷ []) (sym a.end)) (halts-append access (until_end acts) (until_end (HandsOut ∷ [])) old between new a.does h)
 
 -- ---- how a session ends
 
@@ -152,18 +141,20 @@ acts_own (act ∷ acts) = step (end_of act) (act_own act) (acts_own acts)
 never : (ended : Ended) (acts : List Act) → (IsOwn ended → ⊥) → end_among acts ≢ Some ended
 never ended acts other is = other (subst OwnEnd is (acts_own acts))
 
+-- no act ends a session as running out of memory does
 pub never_memory : (acts : List Act) → end_among acts ≢ Some NoMemory
 never_memory acts = never NoMemory acts (λ e. e)
 
 -- ---- connections
 
-none_some : {X : Type 0} (o : Option X) → o ≡ None → IsSome o → ⊥
+-- nothing is there of what is not there
+pub none_some : {X : Type 0} (o : Option X) → o ≡ None → IsSome o → ⊥
 none_some None e s = cc
 none_some (Some x) e s = cc
 
 -- after an end nothing more happens
-pub heeds_over : (old : Connected) (event : Event) (ended : Ended) → old.ended ≡ Some ended → Heeds old event [] (Some ended) old
-heeds_over old event ended is = record {
+pub handles_over : (old : Connected) (event : LinkEvent) (ended : Ended) → old.ended ≡ Some ended → HandlesEvent old event [] (Some ended) old
+handles_over old event ended is = record {
   access_is = refl;
   ended_is = sym is;
   over = λ _. (refl, refl);
@@ -172,54 +163,54 @@ heeds_over old event ended is = record {
 }
 
 -- an event comes to a session that has not ended
-pub heeds_live : {E : Type 0} (old new : Connected) (event : Event) (done : Result (Option Ended) E) (bytes : List ℕ)
+pub handles_live : {E : Type 0} (old new : Connected) (event : LinkEvent) (done : Result (Option Ended) E) (bytes : List ℕ)
     → old.ended ≡ None → new.access ≡ old.access → new.ended ≡ ended_by done
-    → LivesOn old.access old.kept event (point_of old []) done (point_of new bytes) new.kept
-    → Heeds old event bytes new.ended new
-heeds_live old new event (Ok ended) bytes live access is lives =
-    let P : Option Ended → Type 0 = λ o. Lives old.access old.kept event (point_of old []) o (point_of new bytes) new.kept in
+    → ActsOnOrRunsOut old.access old.kept event (point_of old []) done (point_of new bytes) new.kept
+    → HandlesEvent old event bytes new.ended new
+handles_live old new event (Ok ended) bytes live access is acts_on =
+    let P : Option Ended → Type 0 = λ o. ActsOn old.access old.kept event (point_of old []) o (point_of new bytes) new.kept in
     record {
       access_is = access;
       ended_is = refl;
       over = λ some. absurd (none_some old.ended live some);
-      live = λ _ _. subst P (sym is) lives;
-      halts = λ _ memory. absurd (never_memory (acts_at old.kept event) (sym lives.end ∙ sym is ∙ memory));
+      live = λ _ _. subst P (sym is) acts_on;
+      halts = λ _ memory. absurd (never_memory (acts_at old.kept event) (sym acts_on.end ∙ sym is ∙ memory));
     }
-heeds_live old new event (Err fault) bytes live access is lives = record {
+handles_live old new event (Err fault) bytes live access is acts_on = record {
   access_is = access;
   ended_is = refl;
   over = λ some. absurd (none_some old.ended live some);
   live = λ _ other. absurd (other is);
-  halts = λ _ _. lives;
+  halts = λ _ _. acts_on;
 }
 
 -- what was done of an event to a session that has not ended, and what the call answers
-pub heeds_done : {E : Type 0} (old mid new : Connected) (event : Event) (done : Result (Option Ended) E) (bytes sent : List ℕ) (ended : Option Ended)
+pub handles_done : {E : Type 0} (old mid new : Connected) (event : LinkEvent) (done : Result (Option Ended) E) (bytes sent : List ℕ) (ended : Option Ended)
     → old.ended ≡ None → mid.access ≡ old.access
-    → new ≡ record { port = mid.port; access = mid.access; standing = mid.standing; kept = mid.kept; ended = ended_by done }
+    → new ≡ record { port = mid.port; access = mid.access; session = mid.session; kept = mid.kept; ended = ended_by done }
     → bytes ≡ sent → ended ≡ ended_by done
-    → LivesOn old.access old.kept event (point_of old []) done (point_of mid sent) mid.kept
-    → Heeds old event bytes ended new
-heeds_done old mid new event done bytes sent ended live access is same by lives =
-    let left : Connected = record { port = mid.port; access = mid.access; standing = mid.standing; kept = mid.kept; ended = ended_by done } in
-    let all : Heeds old event sent (ended_by done) left = heeds_live old left event done sent live access refl lives in
-    subst (λ n. Heeds old event bytes ended n) (sym is)
-    (subst (λ e. Heeds old event bytes e left) (sym by)
-    (subst (λ xs. Heeds old event xs (ended_by done) left) (sym same) all))
+    → ActsOnOrRunsOut old.access old.kept event (point_of old []) done (point_of mid sent) mid.kept
+    → HandlesEvent old event bytes ended new
+handles_done old mid new event done bytes sent ended live access is same by acts_on =
+    let left : Connected = record { port = mid.port; access = mid.access; session = mid.session; kept = mid.kept; ended = ended_by done } in
+    let all : HandlesEvent old event sent (ended_by done) left = handles_live old left event done sent live access refl acts_on in
+    subst (λ n. HandlesEvent old event bytes ended n) (sym is)
+    (subst (λ e. HandlesEvent old event bytes e left) (sym by)
+    (subst (λ xs. HandlesEvent old event xs (ended_by done) left) (sym same) all))
 
 -- the input ends
-pub heeds_end : (old new : Connected) (dropped : Point) (bytes : List ℕ) (ended : Option Ended)
+pub handles_end : (old new : Connected) (dropped : Point) (bytes : List ℕ) (ended : Option Ended)
     → old.ended ≡ None
-    → new ≡ record { port = dropped.port; access = old.access; standing = dropped.standing; kept = old.kept; ended = Some EndOfInput }
-    → bytes ≡ dropped.sent → ended ≡ Some EndOfInput → Step old.access (point_of old []) Leaves dropped
-    → Heeds old End bytes ended new
-heeds_end old new dropped bytes ended live is same by s =
-    let left : Connected = record { port = dropped.port; access = old.access; standing = dropped.standing; kept = old.kept; ended = Some EndOfInput } in
+    → new ≡ record { port = dropped.port; access = old.access; session = dropped.session; kept = old.kept; ended = Some EndOfInput }
+    → bytes ≡ dropped.sent → ended ≡ Some EndOfInput → DoesAct old.access (point_of old []) Leaves dropped
+    → HandlesEvent old End bytes ended new
+handles_end old new dropped bytes ended live is same by s =
+    let left : Connected = record { port = dropped.port; access = old.access; session = dropped.session; kept = old.kept; ended = Some EndOfInput } in
     let done : Result (Option Ended) ℕ = Ok (Some EndOfInput) in
-    let all : Heeds old End dropped.sent (Some EndOfInput) left =
-    heeds_live old left End done dropped.sent live refl refl (lives_end old.access old.kept old.kept (point_of old []) dropped s) in
-    subst (λ n. Heeds old End bytes ended n) (sym is)
-    (subst (λ e. Heeds old End bytes e left) (sym by) (subst (λ xs. Heeds old End xs (Some EndOfInput) left) (sym same) all))
+    let all : HandlesEvent old End dropped.sent (Some EndOfInput) left =
+    handles_live old left End done dropped.sent live refl refl (acts_on_end old.access old.kept old.kept (point_of old []) dropped s) in
+    subst (λ n. HandlesEvent old End bytes ended n) (sym is)
+    (subst (λ e. HandlesEvent old End bytes e left) (sym by) (subst (λ xs. HandlesEvent old End xs (Some EndOfInput) left) (sym same) all))
 
 -- no other end than these
 pub none_by : (o : Option Ended) → ((ended : Ended) → o ≡ Some ended → ⊥) → o ≡ None
@@ -228,13 +219,15 @@ none_by (Some ended) other = absurd (other ended refl)
 
 -- a session that has not ended is not ended by a fault of a link
 
-pub not_read_fault : (old new : Connected) (event : Event) (bytes : List ℕ) (ended : Option Ended) → old.ended ≡ None → Heeds old event bytes ended new → ended ≢ Some ReadFault
+-- no event ends a session as a failed read does
+pub not_read_fault : (old new : Connected) (event : LinkEvent) (bytes : List ℕ) (ended : Option Ended) → old.ended ≡ None → HandlesEvent old event bytes ended new → ended ≢ Some ReadFault
 not_read_fault old new event bytes ended live h is =
     let at : new.ended ≡ Some ReadFault = sym h.ended_is ∙ is in
     let other : new.ended ≢ Some NoMemory = λ memory. let wrong : Some ReadFault ≡ Some NoMemory = sym at ∙ memory in cc in
     never ReadFault (acts_at old.kept event) (λ e. e) (sym (h.live live other).end ∙ at)
 
-pub not_write_fault : (old new : Connected) (event : Event) (bytes : List ℕ) (ended : Option Ended) → old.ended ≡ None → Heeds old event bytes ended new → ended ≢ Some WriteFault
+-- nor as a failed write does
+pub not_write_fault : (old new : Connected) (event : LinkEvent) (bytes : List ℕ) (ended : Option Ended) → old.ended ≡ None → HandlesEvent old event bytes ended new → ended ≢ Some WriteFault
 not_write_fault old new event bytes ended live h is =
     let at : new.ended ≡ Some WriteFault = sym h.ended_is ∙ is in
     let other : new.ended ≢ Some NoMemory = λ memory. let wrong : Some WriteFault ≡ Some NoMemory = sym at ∙ memory in cc in
@@ -243,15 +236,15 @@ not_write_fault old new event bytes ended live h is =
 -- ---- a piece
 
 -- the messages of a piece are answered, and then messages are handed out, or memory runs out
-pub lives_then : {E : Type 0} (access : Access) (now : ℕ) (kept piece rest left : List ℕ) (place : ℕ) (old mid new : Point) (r : Result (Option Ended) E)
+pub acts_on_then : {E : Type 0} (access : Access) (now : ℕ) (kept piece rest left : List ℕ) (place : ℕ) (old mid new : Point) (r : Result (Option Ended) E)
     → IsAnswered access now (kept ++ piece) place None old mid → rest ≡ rest_of (kept ++ piece)
-    → LivesOn access rest Quiet mid r new left → left ≡ rest
-    → LivesOn access kept (Piece piece now) old r new left
-lives_then access now kept piece rest left place old mid new (Ok ended) a is l same =
+    → ActsOnOrRunsOut access rest Quiet mid r new left → left ≡ rest
+    → ActsOnOrRunsOut access kept (Piece piece now) old r new left
+acts_on_then access now kept piece rest left place old mid new (Ok ended) a is l same =
     let acts : List Act = answers_of now (incoming_in (kept ++ piece)) in
     record {
-      goes = rw (until-on acts (HandsOut ∷ []) (sym a.end)) (goes-append access (until_end acts) (until_end (HandsOut ∷ [])) old mid new a.goes l.goes);
+      does = rw (until-on acts (HandsOut ∷ []) (sym a.end)) (does-append access (until_end acts) (until_end (HandsOut ∷ [])) old mid new a.does l.does);
       end = l.end ∙ sym (end-on acts (HandsOut ∷ []) (sym a.end));
       rest = λ _. same ∙ is;
     }
-lives_then access now kept piece rest left place old mid new (Err fault) a is h same = halts_after access now kept piece place old mid new a h
+acts_on_then access now kept piece rest left place old mid new (Err fault) a is h same = halts_after access now kept piece place old mid new a h

@@ -9,8 +9,8 @@ use Rattle.ldap_session.specs.declared.access.Access.{Access}
 use Rattle.ldap_session.specs.declared.ended.Ended.{Ended}
 use Rattle.ldap_server.specs.Following.{Follows, IsAnswered, Stopped, first_of}
 use Rattle.ldap_server.specs.Points.{Point}
-use Rattle.ldap_server.specs.Session.{Goes, Halts}
-use Rattle.ldap_server.specs.declared.next.Next.TheVariants as next
+use Rattle.ldap_server.specs.Session.{DoesActs, RunsOutOfMemory}
+use Rattle.ldap_server.specs.declared.first_frame.FirstFrame.TheVariants as next
 use Rattle.ldap_server.proofs.Steps.{halts_here, halts_step}
 
 -- the acts of answering what is in these bytes
@@ -21,11 +21,12 @@ acts_in now bytes = until_end (answers_of now (incoming_in bytes))
 -- where memory runs out in what is left it has run out in all.
 pub record Going (access : Access) (now : ℕ) (bytes : List ℕ) (place : ℕ) (old new : Point) : Type 0 where
   pub within : place ≤ length bytes
-  pub goes_on : (end : Point) → Goes access new (acts_in now (drop place bytes)) end → Goes access old (acts_in now bytes) end
-  pub halts_on : (end : Point) → Halts access new (acts_in now (drop place bytes)) end → Halts access old (acts_in now bytes) end
+  pub goes_on : (end : Point) → DoesActs access new (acts_in now (drop place bytes)) end → DoesActs access old (acts_in now bytes) end
+  pub halts_on : (end : Point) → RunsOutOfMemory access new (acts_in now (drop place bytes)) end → RunsOutOfMemory access old (acts_in now bytes) end
   pub ends : end_among (answers_of now (incoming_in bytes)) ≡ end_among (answers_of now (incoming_in (drop place bytes)))
   pub rests : rest_of bytes ≡ rest_of (drop place bytes)
 
+-- at first no message is answered
 pub going_none : (access : Access) (now : ℕ) (bytes : List ℕ) (p : Point) → Going access now bytes 0 p p
 going_none access now bytes p = record { within = omega arith; goes_on = λ end h. h; halts_on = λ end h. h; ends = refl; rests = refl }
 
@@ -49,7 +50,7 @@ pub answered_all : (access : Access) (now : ℕ) (bytes : List ℕ) (place : ℕ
 answered_all access now bytes place old between new g f =
     let none : incoming_in (drop place bytes) ≡ [] = incoming_none (drop place bytes) f.0 in
     record {
-      goes = g.goes_on new (rw none f.1);
+      does = g.goes_on new (rw none f.1);
       end = sym (g.ends ∙ rw none refl);
       within = g.within;
       rest = λ _. sym (g.rests ∙ rest_none (drop place bytes) f.0);
@@ -72,7 +73,7 @@ pub answered_over : (access : Access) (now : ℕ) (bytes : List ℕ) (place : �
 answered_over access now bytes place ended old between new g f =
     let first = first_only (drop place bytes) (read_of (drop place bytes)) f.0 refl f.1 in
     record {
-      goes = g.goes_on new (rw (first.1, f.3) (new, f.2, refl));
+      does = g.goes_on new (rw (first.1, f.3) (new, f.2, refl));
       end = sym (g.ends ∙ rw (first.1, f.3) refl);
       within = g.within;
       rest = λ none. absurd cc;
@@ -80,5 +81,5 @@ answered_over access now bytes place ended old between new g f =
 
 -- memory ran out
 pub answered_halts : (access : Access) (now : ℕ) (bytes : List ℕ) (place : ℕ) (old between new : Point)
-    → Going access now bytes place old between → Stopped between new → Halts access old (acts_in now bytes) new
+    → Going access now bytes place old between → Stopped between new → RunsOutOfMemory access old (acts_in now bytes) new
 answered_halts access now bytes place old between new g s = g.halts_on new (halts_here access (acts_in now (drop place bytes)) between new s)

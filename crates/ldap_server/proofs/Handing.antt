@@ -1,118 +1,12 @@
 -- Messages that are handed out of searches.
-use Rattle.std.proofs.Common.{◌≡◌, ℕ, ◌+◌, ◌<◌, ◌≤◌, Bool, true, false, List, [], ◌∷◌, ◌++◌, length, map, suc, take, drop, get_or, refl, sym, ap, ◌∙◌, subst, append_assoc, arith, length-append, length-take, length-drop, ◌-◌}
-use Rattle.std.specs.List.{flat_map}
+use Rattle.std.proofs.Common.{◌≡◌, ℕ, ◌+◌, ◌<◌, ◌≤◌, Bool, true, false, List, [], ◌∷◌, ◌++◌, length, suc, take, drop, get_or, refl, sym, ap, ◌∙◌, subst, append_assoc, arith, length-append, length-take, length-drop, ◌-◌}
 use Rattle.std.proofs.lemmas.List.{append-nil}
-use Rattle.ldap_messages.specs.Operation.{IsOfGrammar, operation_of}
-use Rattle.ldap_messages.specs.declared.message.Message.{Message}
-use Rattle.sync_provider.specs.Ports.{PortState, IsReplied, HandOutReplies}
-use Rattle.sync_provider.specs.declared.handed.Handed.{Handed}
-use Rattle.sync_provider.specs.declared.handed.Handed.TheVariants as handed
-use Rattle.ldap_server.specs.Exchanges.{Exchange, Exchanged, HandedOut}
-use Rattle.ldap_server.specs.HandOuts.Stop.{Ends}
-use Rattle.ldap_server.specs.HandOuts.{HandsOutAll, HasTurn, IsIn, Stop, Turns, given, left_open, octets_of, place_after, searches_after, stays_open, stop_asked, stop_sent}
-use Rattle.ldap_server.specs.Points.{Point, Begun, Performed}
-use Rattle.ldap_server.specs.Standing.{Standing}
+use Rattle.ldap_server.specs.PortCalls.{PortCall, Exchanged}
+use Rattle.ldap_server.specs.HandOuts.{HandsOutAll, HasTurn, Turns, left_open, place_after, searches_after}
+use Rattle.ldap_server.specs.Points.{Point, Begun, IsPerformed}
+use Rattle.ldap_server.specs.SessionState.{SessionState}
 use Rattle.ldap_server.specs.declared.session_search.SessionSearch.{SessionSearch}
-use Rattle.ldap_server.proofs.Exchanging.{exchanged-append, exchanged_more, exchanged_one}
-use Rattle.ldap_server.proofs.Performing.{IsPart}
-use Rattle.ldap_server.proofs.Spelled.{end_spelled, message_spelled}
-
--- ---- one search
-
--- a message that the port hands out is of the grammar
-pub handed_spelled : (port new : PortState) (number : ℕ) (message : Message) → IsReplied port (λ p. HandOutReplies p number (handed.Message message) new) → IsOfGrammar (operation_of message.op)
-handed_spelled port new number message replied = message_spelled replied.place new number message replied.replies
-
-pub ended_spelled : (port new : PortState) (number code : ℕ) (message : Message) → IsReplied port (λ p. HandOutReplies p number (handed.Ended code message) new) → IsOfGrammar (operation_of message.op)
-ended_spelled port new number code message replied = end_spelled replied.place new number code message replied.replies
-
--- n of its messages were handed out and sent
-pub record HandingOut (search : SessionSearch) (count : ℕ) (old new : Point) : Type 0 where
-  pub messages : List Message
-  pub count_is : length messages ≡ count
-  pub exchanged : Exchanged old.port (map (given search.number) messages) new.port
-  pub sent_is : new.sent ≡ old.sent ++ flat_map octets_of messages
-  pub same : new.standing ≡ old.standing
-
-pub handing_none : (search : SessionSearch) (p : Point) → HandingOut search 0 p p
-handing_none search p = record { messages = []; count_is = refl; exchanged = refl; sent_is = sym (append-nil p.sent); same = refl }
-
-flat-push : (messages : List Message) (message : Message) → flat_map octets_of (messages ++ message ∷ []) ≡ flat_map octets_of messages ++ octets_of message
-flat-push [] message = append-nil (octets_of message)
-flat-push (first ∷ messages) message =
-    ap (λ xs. octets_of first ++ xs) (flat-push messages message) ∙ sym (append_assoc (octets_of first) (flat_map octets_of messages) (octets_of message))
-
-map-push : (number : ℕ) (messages : List Message) (message : Message) → map (given number) (messages ++ message ∷ []) ≡ map (given number) messages ++ given number message ∷ []
-map-push number [] message = refl
-map-push number (first ∷ messages) message = ap (λ xs. given number first ∷ xs) (map-push number messages message)
-
--- one message more
-pub handing_one : (search : SessionSearch) (count : ℕ) (old mid new : Point) (port : PortState) (message : Message)
-    → HandingOut search count old mid → IsReplied mid.port (λ p. HandOutReplies p search.number (handed.Message message) port)
-    → new ≡ record { port = port; standing = mid.standing; sent = mid.sent ++ octets_of message }
-    → HandingOut search (count + 1) old new
-handing_one search count old mid new port message h replied is =
-    let P : Point → Type 0 = λ p. HandingOut search (count + 1) old p in
-    subst P (sym is)
-    (record {
-      messages = h.messages ++ message ∷ [];
-      count_is = omega (arith, h.count_is, length-append h.messages (message ∷ []));
-      exchanged = subst (λ xs. Exchanged old.port xs port) (sym (map-push search.number h.messages message))
-          (exchanged_more (map (given search.number) h.messages) (given search.number message) old.port mid.port port h.exchanged replied);
-      sent_is = ap (λ xs. xs ++ octets_of message) h.sent_is
-          ∙ append_assoc old.sent (flat_map octets_of h.messages) (octets_of message)
-          ∙ ap (λ xs. old.sent ++ xs) (sym (flat-push h.messages message));
-      same = h.same;
-    })
-
--- no more messages
-pub turn_ends : (search : SessionSearch) (count : ℕ) (stop : Stop) (old mid new : Point)
-    → HandingOut search count old mid → IsIn count stop
-    → Exchanged mid.port (stop_asked search.number stop) new.port → new.sent ≡ mid.sent ++ stop_sent stop → new.standing ≡ mid.standing
-    → HasTurn search old (stays_open stop) new
-turn_ends search count stop old mid new h bounded exchanged sent same = record {
-  asked = map (given search.number) h.messages ++ stop_asked search.number stop;
-  octets = flat_map octets_of h.messages ++ stop_sent stop;
-  turn = record {
-    messages = h.messages;
-    stop = stop;
-    bounded = subst (λ n. IsIn n stop) (sym h.count_is) bounded;
-    asked_is = refl;
-    sent_is = refl;
-    stays_is = refl;
-  };
-  exchanged = exchanged-append (map (given search.number) h.messages) (stop_asked search.number stop) old.port mid.port new.port h.exchanged exchanged;
-  sent_is = sent ∙ ap (λ xs. xs ++ stop_sent stop) h.sent_is ∙ append_assoc old.sent (flat_map octets_of h.messages) (stop_sent stop);
-  same = same ∙ h.same;
-}
-
--- the port was asked once more, and then memory ran out
-pub handing_begun : (search : SessionSearch) (count : ℕ) (reply : Handed) (old mid new : Point) (part : List ℕ)
-    → HandingOut search count old mid → IsReplied mid.port (λ p. HandOutReplies p search.number reply new.port)
-    → new.sent ≡ mid.sent ++ part → Begun old new
-handing_begun search count reply old mid new part h replied sent = record {
-  asked = map (given search.number) h.messages ++ HandedOut search.number reply ∷ [];
-  exchanged = exchanged_more (map (given search.number) h.messages) (HandedOut search.number reply) old.port mid.port new.port h.exchanged replied;
-  octets = flat_map octets_of h.messages ++ part;
-  sent_is = sent ∙ ap (λ xs. xs ++ part) h.sent_is ∙ append_assoc old.sent (flat_map octets_of h.messages) part;
-}
-
--- memory ran out in sending what the port had handed out
-pub handing_cut : (search : SessionSearch) (count : ℕ) (reply : Handed) (old mid new : Point) (port : PortState)
-    → HandingOut search count old mid → IsReplied mid.port (λ p. HandOutReplies p search.number reply port)
-    → IsPart (record { port = port; standing = mid.standing; sent = mid.sent }) new → Begun old new
-handing_cut search count reply old mid new port h replied sends =
-    subst (λ p. Begun old p) (sym sends.1)
-    (handing_begun search count reply old mid (record { port = port; standing = mid.standing; sent = mid.sent ++ sends.0 }) sends.0 h replied refl)
-
--- the last message of a search was sent
-pub turn_closes : (search : SessionSearch) (count code : ℕ) (message : Message) (old mid new : Point) (port : PortState)
-    → HandingOut search count old mid → count < 64 → IsReplied mid.port (λ p. HandOutReplies p search.number (handed.Ended code message) port)
-    → new ≡ record { port = port; standing = mid.standing; sent = mid.sent ++ octets_of message } → HasTurn search old false new
-turn_closes search count code message old mid new port h low replied sends =
-    subst (λ p. HasTurn search old false p) (sym sends)
-    (turn_ends search count (Ends code message) old mid (record { port = port; standing = mid.standing; sent = mid.sent ++ octets_of message }) h low
-    (exchanged_one (HandedOut search.number (handed.Ended code message)) mid.port port replied) refl refl)
+use Rattle.ldap_server.proofs.Exchanging.{exchanged-append}
 
 -- ---- all searches
 
@@ -122,19 +16,20 @@ pub record HaveTurned (place : ℕ) (old new : Point) : Type 0 where
   pub kept : List SessionSearch
   pub left : List SessionSearch
   pub place_is : length kept ≡ place
-  pub searches_are : new.standing.searches ≡ kept ++ left
-  pub bound_is : new.standing.bound ≡ old.standing.bound
-  pub asked : List Exchange
+  pub searches_are : new.session.searches ≡ kept ++ left
+  pub bound_is : new.session.bound ≡ old.session.bound
+  pub asked : List PortCall
   pub octets : List ℕ
   pub exchanged : Exchanged old.port asked new.port
   pub sent_is : new.sent ≡ old.sent ++ octets
-  pub goes_on : (more : List Exchange) (later : List ℕ) (rest : List SessionSearch) → Turns left more later rest
-      → Turns old.standing.searches (asked ++ more) (octets ++ later) (kept ++ rest)
+  pub goes_on : (more : List PortCall) (later : List ℕ) (rest : List SessionSearch) → Turns left more later rest
+      → Turns old.session.searches (asked ++ more) (octets ++ later) (kept ++ rest)
 
+-- at first no search has had its turn
 pub turned_none : (p : Point) → HaveTurned 0 p p
 turned_none p = record {
   kept = [];
-  left = p.standing.searches;
+  left = p.session.searches;
   place_is = refl;
   searches_are = refl;
   bound_is = refl;
@@ -159,31 +54,31 @@ without_here (first ∷ kept) more search =
 
 -- the search at the place is the first of those that are left
 first_left : (place : ℕ) (old mid : Point) (search : SessionSearch) (h : HaveTurned place old mid)
-    → place < length mid.standing.searches → search ≡ get_or mid.standing.searches place search
+    → place < length mid.session.searches → search ≡ get_or mid.session.searches place search
     → (more : List SessionSearch) × (h.left ≡ search ∷ more)
 first_left place old mid search h low is = step h.left refl
   where
     step : (left : List SessionSearch) → h.left ≡ left → (more : List SessionSearch) × (h.left ≡ search ∷ more)
     step [] none =
-        let all : mid.standing.searches ≡ h.kept = h.searches_are ∙ ap (λ xs. h.kept ++ xs) none ∙ append-nil h.kept in
+        let all : mid.session.searches ≡ h.kept = h.searches_are ∙ ap (λ xs. h.kept ++ xs) none ∙ append-nil h.kept in
         absurd (omega (arith, low, ap length all, h.place_is))
     step (first ∷ more) some =
-        let all : mid.standing.searches ≡ h.kept ++ first ∷ more = h.searches_are ∙ ap (λ xs. h.kept ++ xs) some in
+        let all : mid.session.searches ≡ h.kept ++ first ∷ more = h.searches_are ∙ ap (λ xs. h.kept ++ xs) some in
         let here : search ≡ first = is ∙ ap (λ xs. get_or xs place search) all ∙ ap (λ n. get_or (h.kept ++ first ∷ more) n search) (sym h.place_is) ∙ at_here h.kept more first search in
         (more, some ∙ ap (λ s. s ∷ more) (sym here))
 
 -- the turn of one search, after which these are kept of it
 turned_by : (place next : ℕ) (old mid after new : Point) (search : SessionSearch) (stays : Bool) (more : List SessionSearch) (h : HaveTurned place old mid)
     → h.left ≡ search ∷ more → HasTurn search mid stays after
-    → length (h.kept ++ left_open search stays) ≡ next → new.standing.searches ≡ (h.kept ++ left_open search stays) ++ more
-    → new.standing.bound ≡ after.standing.bound → new.port ≡ after.port → new.sent ≡ after.sent
+    → length (h.kept ++ left_open search stays) ≡ next → new.session.searches ≡ (h.kept ++ left_open search stays) ++ more
+    → new.session.bound ≡ after.session.bound → new.port ≡ after.port → new.sent ≡ after.sent
     → HaveTurned next old new
 turned_by place next old mid after new search stays more h is t count searches bound port sent = record {
   kept = h.kept ++ left_open search stays;
   left = more;
   place_is = count;
   searches_are = searches;
-  bound_is = bound ∙ ap (λ (s : Standing). s.bound) t.same ∙ h.bound_is;
+  bound_is = bound ∙ ap (λ (s : SessionState). s.bound) t.same ∙ h.bound_is;
   asked = h.asked ++ t.asked;
   octets = h.octets ++ t.octets;
   exchanged = subst (λ p. Exchanged old.port (h.asked ++ t.asked) p) (sym port) (exchanged-append h.asked t.asked old.port mid.port after.port h.exchanged t.exchanged);
@@ -197,43 +92,43 @@ turned_by place next old mid after new search stays more h is t count searches b
 
 -- the search stays open
 pub turned_on : (place : ℕ) (old mid after : Point) (search : SessionSearch) → HaveTurned place old mid
-    → place < length mid.standing.searches → search ≡ get_or mid.standing.searches place search
+    → place < length mid.session.searches → search ≡ get_or mid.session.searches place search
     → HasTurn search mid true after → HaveTurned (place + 1) old after
 turned_on place old mid after search h low is t =
     let first = first_left place old mid search h low is in
     turned_by place (place + 1) old mid after after search true first.0 h first.1 t
     (omega (arith, length-append h.kept (search ∷ []), h.place_is))
-    (ap (λ (s : Standing). s.searches) t.same ∙ h.searches_are ∙ ap (λ xs. h.kept ++ xs) first.1 ∙ sym (append_assoc h.kept (search ∷ []) first.0))
+    (ap (λ (s : SessionState). s.searches) t.same ∙ h.searches_are ∙ ap (λ xs. h.kept ++ xs) first.1 ∙ sym (append_assoc h.kept (search ∷ []) first.0))
     refl refl refl
 
 -- it is over, and taken out of the list
 pub turned_off : (place : ℕ) (old mid after : Point) (search : SessionSearch) (left : List SessionSearch) → HaveTurned place old mid
-    → place < length mid.standing.searches → search ≡ get_or mid.standing.searches place search
-    → HasTurn search mid false after → left ≡ take place after.standing.searches ++ drop (place + 1) after.standing.searches
-    → HaveTurned place old (record { port = after.port; standing = record { bound = after.standing.bound; searches = left }; sent = after.sent })
+    → place < length mid.session.searches → search ≡ get_or mid.session.searches place search
+    → HasTurn search mid false after → left ≡ take place after.session.searches ++ drop (place + 1) after.session.searches
+    → HaveTurned place old (record { port = after.port; session = record { bound = after.session.bound; searches = left }; sent = after.sent })
 turned_off place old mid after search left h low is t out =
     let first = first_left place old mid search h low is in
-    let all : after.standing.searches ≡ h.kept ++ search ∷ first.0 = ap (λ (s : Standing). s.searches) t.same ∙ h.searches_are ∙ ap (λ xs. h.kept ++ xs) first.1 in
+    let all : after.session.searches ≡ h.kept ++ search ∷ first.0 = ap (λ (s : SessionState). s.searches) t.same ∙ h.searches_are ∙ ap (λ xs. h.kept ++ xs) first.1 in
     let gone : left ≡ h.kept ++ first.0 =
     out ∙ ap (λ xs. take place xs ++ drop (place + 1) xs) all
     ∙ ap (λ n. take n (h.kept ++ search ∷ first.0) ++ drop (n + 1) (h.kept ++ search ∷ first.0)) (sym h.place_is)
     ∙ without_here h.kept first.0 search in
-    turned_by place place old mid after (record { port = after.port; standing = record { bound = after.standing.bound; searches = left }; sent = after.sent }) search false first.0 h first.1 t
+    turned_by place place old mid after (record { port = after.port; session = record { bound = after.session.bound; searches = left }; sent = after.sent }) search false first.0 h first.1 t
     (ap length (append-nil h.kept) ∙ h.place_is)
     (gone ∙ ap (λ xs. xs ++ first.0) (sym (append-nil h.kept)))
     refl refl refl
 
 -- whichever
 pub turned_next : (place next : ℕ) (old mid after : Point) (search : SessionSearch) (stays : Bool) (left : List SessionSearch) → HaveTurned place old mid
-    → place < length mid.standing.searches → search ≡ get_or mid.standing.searches place search
-    → HasTurn search mid stays after → next ≡ place_after stays place → left ≡ searches_after stays place after.standing.searches
-    → HaveTurned next old (record { port = after.port; standing = record { bound = after.standing.bound; searches = left }; sent = after.sent })
+    → place < length mid.session.searches → search ≡ get_or mid.session.searches place search
+    → HasTurn search mid stays after → next ≡ place_after stays place → left ≡ searches_after stays place after.session.searches
+    → HaveTurned next old (record { port = after.port; session = record { bound = after.session.bound; searches = left }; sent = after.sent })
 turned_next place next old mid after search true left h low is t at all =
-    let P : List SessionSearch → Type 0 = λ xs. HaveTurned (place + 1) old (record { port = after.port; standing = record { bound = after.standing.bound; searches = xs }; sent = after.sent }) in
-    subst (λ n. HaveTurned n old (record { port = after.port; standing = record { bound = after.standing.bound; searches = left }; sent = after.sent })) (sym at)
+    let P : List SessionSearch → Type 0 = λ xs. HaveTurned (place + 1) old (record { port = after.port; session = record { bound = after.session.bound; searches = xs }; sent = after.sent }) in
+    subst (λ n. HaveTurned n old (record { port = after.port; session = record { bound = after.session.bound; searches = left }; sent = after.sent })) (sym at)
     (subst P (sym all) (turned_on place old mid after search h low is t))
 turned_next place next old mid after search false left h low is t at all =
-    subst (λ n. HaveTurned n old (record { port = after.port; standing = record { bound = after.standing.bound; searches = left }; sent = after.sent })) (sym at)
+    subst (λ n. HaveTurned n old (record { port = after.port; session = record { bound = after.session.bound; searches = left }; sent = after.sent })) (sym at)
     (turned_off place old mid after search left h low is t all)
 
 -- fewer searches are left
@@ -244,20 +139,20 @@ turned_smaller false place next searches left low at all =
     omega (arith, low, at, ap length all, length-append (take place searches) (drop (place + 1) searches), length-take place searches, length-drop (place + 1) searches)
 
 -- all had their turns
-pub turned_all : (place : ℕ) (old new : Point) → HaveTurned place old new → length new.standing.searches ≤ place → Performed HandsOutAll old new
+pub turned_all : (place : ℕ) (old new : Point) → HaveTurned place old new → length new.session.searches ≤ place → IsPerformed HandsOutAll old new
 turned_all place old new h all = step h.left refl
   where
-    step : (left : List SessionSearch) → h.left ≡ left → Performed HandsOutAll old new
+    step : (left : List SessionSearch) → h.left ≡ left → IsPerformed HandsOutAll old new
     step [] none =
-        let kept : new.standing.searches ≡ h.kept = h.searches_are ∙ ap (λ xs. h.kept ++ xs) none ∙ append-nil h.kept in
-        let turns : Turns old.standing.searches (h.asked ++ []) (h.octets ++ []) (h.kept ++ []) =
+        let kept : new.session.searches ≡ h.kept = h.searches_are ∙ ap (λ xs. h.kept ++ xs) none ∙ append-nil h.kept in
+        let turns : Turns old.session.searches (h.asked ++ []) (h.octets ++ []) (h.kept ++ []) =
         h.goes_on [] [] [] (subst (λ xs. Turns xs [] [] []) (sym none) (refl, refl, refl)) in
-        let there : Turns old.standing.searches h.asked h.octets h.kept = rw (append-nil h.asked, append-nil h.octets, append-nil h.kept) at turns in
+        let there : Turns old.session.searches h.asked h.octets h.kept = rw (append-nil h.asked, append-nil h.octets, append-nil h.kept) at turns in
         record {
           asked = h.asked;
           octets = h.octets;
           act = record {
-            turns = subst (λ xs. Turns old.standing.searches h.asked h.octets xs) (sym kept) there;
+            turns = subst (λ xs. Turns old.session.searches h.asked h.octets xs) (sym kept) there;
             bound_is = h.bound_is;
           };
           exchanged = h.exchanged;

@@ -18,3 +18,4 @@ pub mod Searched
 pub mod Selections
 pub mod Spelled
 pub mod Steps
+pub mod Together

@@ -1,83 +1,26 @@
 -- The loop of a session over a link.
-use Rattle.std.proofs.Common.{◌≡◌, ℕ, ◌+◌, ◌-◌, ◌≤◌, List, [], ◌∷◌, ◌++◌, Option, Some, None, Bool, refl, sym, ap, subst, ◌∙◌, append_assoc, arith, inl, inr}
+use Rattle.std.proofs.Common.{◌≡◌, ℕ, ◌+◌, ◌-◌, List, [], ◌∷◌, ◌++◌, Option, Some, None, refl, sym, ap, subst, ◌∙◌, append_assoc, inl, inr}
 use Rattle.std.specs.List.{flat_map}
 use Rattle.std.specs.Io.KnownBytes.{Appends, Consumes, IsAtEnd}
 use Rattle.std.proofs.KnownBytes.{Appends-kept, Appends-nil, Appends-trans, Consumes-kept, Consumes-nil, Consumes-trans}
 use Rattle.std.proofs.lemmas.List.{append-nil}
-use Rattle.sync_io.specs.Faults.{CountHasRisen}
-use Rattle.sync_io.specs.Sides.{SinkSide, SourceSide}
 use Rattle.sync_io.specs.Sink.{AppendsPrefix}
 use Rattle.ldap_session.specs.declared.ended.Ended.{Ended}
 use Rattle.ldap_session.specs.declared.ended.Ended.TheVariants.{EndOfInput, ReadFault, WriteFault}
-use Rattle.ldap_session.specs.declared.event.Event.{Event}
-use Rattle.ldap_server.specs.Session.{Connected, Heeds, Runs}
+use Rattle.ldap_session.specs.declared.event.LinkEvent.{LinkEvent}
+use Rattle.ldap_server.specs.Session.{Connected, HandlesEvent, HandlesEvents}
 use Rattle.ldap_server.specs.Serving.{EndsLive, LinkBytes, Serves, Takes, brought_by}
 use Rattle.ldap_server.specs.declared.connection.Out.{Out}
 use Rattle.ldap_server.proofs.AtEnd.{ends_at_end}
 use Rattle.ldap_server.proofs.Amid.{Amid, running_all, running_none, running_one}
 
--- ---- the sides of a link
-
-abbrev held_in : Option SinkSide → Option (List ℕ)
-held_in None = None
-held_in (Some s) = s.held
-
-abbrev write_faults_in : Option SinkSide → ℕ
-write_faults_in None = 0
-write_faults_in (Some s) = s.faults
-
--- a read that leaves the side where bytes go out leaves what was written and the faults of writes
-pub sink_same : {L : Type 0} (side : L → Option SinkSide) (held : L → Option (List ℕ)) (faults : L → ℕ) (old new : L)
-    → ((l : L) → side l ≡ Some (record { held = held l; faults = faults l })) → side new ≡ side old
-    → (held new ≡ held old) × (faults new ≡ faults old)
-sink_same side held faults old new reports same =
-    let both : Some (record { held = held new; faults = faults new }) ≡ Some (record { held = held old; faults = faults old }) = sym (reports new) ∙ same ∙ reports old in
-    (ap held_in both, ap write_faults_in both)
-
--- what a write leaves of the side where bytes come in
-pub record SourceSame {L : Type 0} (left read : L → Option (List ℕ)) (waits : L → Bool) (faults : L → ℕ) (old new : L) : Type 0 where
-  pub left_is : left new ≡ left old
-  pub read_is : read new ≡ read old
-  pub waits_is : waits new ≡ waits old
-  pub faults_is : faults new ≡ faults old
-
-abbrev left_in : Option SourceSide → Option (List ℕ)
-left_in None = None
-left_in (Some s) = s.left
-
-abbrev read_in : Option SourceSide → Option (List ℕ)
-read_in None = None
-read_in (Some s) = s.read
-
-abbrev waits_in : Bool → Option SourceSide → Bool
-waits_in other None = other
-waits_in other (Some s) = s.waits
-
-abbrev read_faults_in : Option SourceSide → ℕ
-read_faults_in None = 0
-read_faults_in (Some s) = s.faults
-
-pub source_same : {L : Type 0} (side : L → Option SourceSide) (left read : L → Option (List ℕ)) (waits : L → Bool) (faults : L → ℕ) (old new : L)
-    → ((l : L) → side l ≡ Some (record { left = left l; read = read l; waits = waits l; faults = faults l })) → side new ≡ side old
-    → SourceSame left read waits faults old new
-source_same side left read waits faults old new reports same =
-    let now : SourceSide = record { left = left new; read = read new; waits = waits new; faults = faults new } in
-    let before : SourceSide = record { left = left old; read = read old; waits = waits old; faults = faults old } in
-    let both : Some now ≡ Some before = sym (reports new) ∙ same ∙ reports old in
-    record {
-      left_is = ap left_in both;
-      read_is = ap read_in both;
-      waits_is = ap (waits_in (waits old)) both;
-      faults_is = ap read_faults_in both;
-    }
-
 -- ---- the loop
 
 -- some events have come, whatever comes later
 pub record Linked (old : Connected) (before : LinkBytes) (now : Connected) (after : LinkBytes) : Type 0 where
-  pub events : List Event
+  pub events : List LinkEvent
   pub sent : List ℕ
-  pub all : (later : List Event) → Amid old (events ++ later) later sent now
+  pub all : (later : List LinkEvent) → Amid old (events ++ later) later sent now
   pub taken : Consumes before.left after.left (flat_map brought_by events)
   pub read : Appends before.read after.read (flat_map brought_by events)
   pub written : Appends before.held after.held sent
@@ -87,6 +30,7 @@ pub record Linked (old : Connected) (before : LinkBytes) (now : Connected) (afte
 none_is : (o : Option Ended) (e : Ended) → o ≡ None → o ≡ Some e → ⊥
 none_is o e none some = let wrong : None ≡ Some e = sym none ∙ some in cc
 
+-- at first nothing has come over the link
 pub linked_none : (old : Connected) (before : LinkBytes) → Linked old before old before
 linked_none old before = record {
   events = [];
@@ -98,19 +42,19 @@ linked_none old before = record {
   at_end = λ live end. absurd (none_is old.ended EndOfInput live end);
 }
 
-brought-push : (events : List Event) (event : Event) → flat_map brought_by (events ++ event ∷ []) ≡ flat_map brought_by events ++ brought_by event
+brought-push : (events : List LinkEvent) (event : LinkEvent) → flat_map brought_by (events ++ event ∷ []) ≡ flat_map brought_by events ++ brought_by event
 brought-push [] event = append-nil (brought_by event)
 brought-push (first ∷ events) event =
     ap (λ xs. brought_by first ++ xs) (brought-push events event) ∙ sym (append_assoc (brought_by first) (flat_map brought_by events) (brought_by event))
 
-consumes_more : (first before after : Option (List ℕ)) (events : List Event) (event : Event)
+consumes_more : (first before after : Option (List ℕ)) (events : List LinkEvent) (event : LinkEvent)
     → Consumes first before (flat_map brought_by events) → Consumes before after (brought_by event)
     → Consumes first after (flat_map brought_by (events ++ event ∷ []))
 consumes_more first before after events event all one =
     subst (λ bytes. Consumes first after bytes) (sym (brought-push events event))
     (Consumes-trans first before after (flat_map brought_by events) (brought_by event) all one)
 
-appends_more : (first before after : Option (List ℕ)) (events : List Event) (event : Event)
+appends_more : (first before after : Option (List ℕ)) (events : List LinkEvent) (event : LinkEvent)
     → Appends first before (flat_map brought_by events) → Appends before after (brought_by event)
     → Appends first after (flat_map brought_by (events ++ event ∷ []))
 appends_more first before after events event all one =
@@ -134,20 +78,20 @@ linked_one old mid new before between after out l live t w = record {
   at_end = λ began end. ends_at_end mid new t.0 out.bytes out.ended after.left (live began) t.1 t.4 end;
 }
 
-runs_now : (old now : Connected) (events : List Event) (sent : List ℕ) → Amid old (events ++ []) [] sent now → Runs old events sent now
+runs_now : (old now : Connected) (events : List LinkEvent) (sent : List ℕ) → Amid old (events ++ []) [] sent now → HandlesEvents old events sent now
 runs_now old now events sent r =
     running_all old now events sent (subst (λ all. Amid old all [] sent now) (append-nil events) r)
 
-runs_one : (old mid new : Connected) (events : List Event) (event : Event) (sent bytes : List ℕ) (ended : Option Ended)
-    → Amid old (events ++ event ∷ []) (event ∷ []) sent mid → Heeds mid event bytes ended new
-    → Runs old (events ++ event ∷ []) (sent ++ bytes) new
+runs_one : (old mid new : Connected) (events : List LinkEvent) (event : LinkEvent) (sent bytes : List ℕ) (ended : Option Ended)
+    → Amid old (events ++ event ∷ []) (event ∷ []) sent mid → HandlesEvent mid event bytes ended new
+    → HandlesEvents old (events ++ event ∷ []) (sent ++ bytes) new
 runs_one old mid new events event sent bytes ended r h =
     running_all old new (events ++ event ∷ []) (sent ++ bytes)
     (running_one old mid new (events ++ event ∷ []) [] event sent bytes ended r h)
 
 -- one event more came to a session that had not ended
-ends_live : (old mid new : Connected) (events : List Event) (event : Event) (sent bytes : List ℕ) (ended : Option Ended)
-    → Amid old (events ++ []) [] sent mid → mid.ended ≡ None → Heeds mid event bytes ended new
+ends_live : (old mid new : Connected) (events : List LinkEvent) (event : LinkEvent) (sent bytes : List ℕ) (ended : Option Ended)
+    → Amid old (events ++ []) [] sent mid → mid.ended ≡ None → HandlesEvent mid event bytes ended new
     → EndsLive old (events ++ event ∷ []) (sent ++ bytes) new
 ends_live old mid new events event sent bytes ended r live h = record {
   earlier = events;
@@ -159,7 +103,7 @@ ends_live old mid new events event sent bytes ended r live h = record {
   sent_is = refl;
   runs = runs_now old mid events sent r;
   live = live;
-  heeds = subst (λ (e : Option Ended). Heeds mid event bytes e new) h.ended_is h;
+  handles = subst (λ (e : Option Ended). HandlesEvent mid event bytes e new) h.ended_is h;
 }
 
 -- the session is over
@@ -190,7 +134,7 @@ pub serves_unread : (old mid now : Connected) (before between after : LinkBytes)
 serves_unread old mid now before between after l live t held = record {
   events = l.events;
   sent = l.sent;
-  runs = subst (λ n. Runs old l.events l.sent n) (sym t.0) (runs_now old mid l.events l.sent (l.all []));
+  runs = subst (λ n. HandlesEvents old l.events l.sent n) (sym t.0) (runs_now old mid l.events l.sent (l.all []));
   taken = Consumes-kept before.left between.left after.left (flat_map brought_by l.events) l.taken t.1;
   read = Appends-kept before.read between.read after.read (flat_map brought_by l.events) l.read t.2;
   prefix = (l.sent, [], sym (append-nil l.sent), written);
@@ -220,8 +164,3 @@ serves_unwritten old mid new before between after out l live t w = record {
   at_end = λ _ end. absurd (let wrong : WriteFault ≡ EndOfInput = end in cc);
   prompt = λ began. inr (ends_live old mid new l.events t.0 l.sent out.bytes out.ended (l.all []) (live began) t.1);
 }
-
--- ---- counts of faults
-
-pub rose_later : (first before now : ℕ) → first ≤ before → CountHasRisen before now → CountHasRisen first now
-rose_later first before now later rose = omega (arith, later, rose)

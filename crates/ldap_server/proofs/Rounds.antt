@@ -8,7 +8,8 @@ use Rattle.ldap_session.specs.declared.ended.Ended.TheVariants.{ReadFault, Write
 use Rattle.ldap_server.specs.Serving.{LinkBytes, Serves, Takes}
 use Rattle.ldap_server.specs.Session.{Connected}
 use Rattle.ldap_server.specs.declared.connection.Out.{Out}
-use Rattle.ldap_server.proofs.Linking.{Linked, linked_one, serves_ended, serves_unread, serves_unwritten, sink_same, source_same}
+use Rattle.ldap_server.proofs.Linking.{Linked, linked_one, serves_ended, serves_unread, serves_unwritten}
+use Rattle.sync_io.proofs.Sides.{sink_same, source_same}
 
 module _ {L : Type 0}
     (left read held : L → Option (List ℕ)) (waits : L → Bool) (read_faults write_faults : L → ℕ) (source_side : L → Option SourceSide) (sink_side : L → Option SinkSide)

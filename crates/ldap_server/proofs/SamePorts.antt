@@ -18,10 +18,10 @@ use Rattle.ldap_session.specs.Acts.{Act, acts_from, until_end}
 use Rattle.ldap_session.specs.declared.access.Access.{Access}
 use Rattle.ldap_session.specs.declared.ended.Ended.{Ended}
 use Rattle.ldap_session.specs.declared.ended.Ended.TheVariants.{EndOfInput, NoMemory, ProtocolFault, ReadFault, Unbound, WriteFault}
-use Rattle.ldap_session.specs.declared.event.Event.{Event}
-use Rattle.ldap_server.specs.Exchanges.{Asked, Compared, Dropped, Exchange, Exchanged, HandedOut, Replies, Searched, Wrote}
+use Rattle.ldap_session.specs.declared.event.LinkEvent.{LinkEvent}
+use Rattle.ldap_server.specs.PortCalls.{Asked, Compared, Dropped, PortCall, Exchanged, HandedOut, Replies, Searched, Wrote}
 use Rattle.ldap_server.specs.Points.{Point}
-use Rattle.ldap_server.specs.Session.{Connected, Goes, Halts, Runs, point_of}
+use Rattle.ldap_server.specs.Session.{Connected, DoesActs, RunsOutOfMemory, HandlesEvents, point_of}
 use Rattle.ldap_server.specs.Table.{DropsAll}
 
 -- two states of one port
@@ -88,7 +88,7 @@ dropped_same : (p : PortState) (number : ℕ) (search : Option FollowedSearch) �
 dropped_same p number None = same_here p
 dropped_same p number (Some f) = record { number = refl; ports = refl }
 
-replies_same : (one : Exchange) (p new : PortState) → Replies one p new → IsSamePort p new
+replies_same : (one : PortCall) (p new : PortState) → Replies one p new → IsSamePort p new
 replies_same (Wrote op now reply) p new r = write_same p op now reply new r
 replies_same (Searched ask reply) p new r = same_by p new r.state
 replies_same (Compared dn name value code) p new r = same_by p new r.state
@@ -98,7 +98,8 @@ replies_same (HandedOut search reply) p new r =
 replies_same (Dropped search was_open) p new r =
     subst (λ q. IsSamePort p q) (sym r.state) (dropped_same p search (p.followed search))
 
-pub exchanged_same : (asked : List Exchange) (old new : PortState) → Exchanged old asked new → IsSamePort old new
+-- whatever is asked of a port, it stays the same port
+pub exchanged_same : (asked : List PortCall) (old new : PortState) → Exchanged old asked new → IsSamePort old new
 exchanged_same [] old new is = same_by old new is
 exchanged_same (one ∷ more) old new e =
     let place = e.1.place in
@@ -107,27 +108,27 @@ exchanged_same (one ∷ more) old new e =
 
 -- ---- sessions
 
-goes_same : (access : Access) (acts : List Act) (old new : Point) → Goes access old acts new → IsSamePort old.port new.port
+goes_same : (access : Access) (acts : List Act) (old new : Point) → DoesActs access old acts new → IsSamePort old.port new.port
 goes_same access [] old new is = same_by old.port new.port (ap (λ (p : Point). p.port) is)
 goes_same access (act ∷ acts) old new g =
     same_then old.port g.0.port new.port (exchanged_same g.1.asked old.port g.0.port g.1.exchanged) (goes_same access acts g.0 new g.2)
 
-halts_same : (access : Access) (acts : List Act) (old new : Point) → Halts access old acts new → IsSamePort old.port new.port
+halts_same : (access : Access) (acts : List Act) (old new : Point) → RunsOutOfMemory access old acts new → IsSamePort old.port new.port
 halts_same access acts old new h =
-    same_then old.port h.between.port new.port (goes_same access h.done old h.between h.goes) (exchanged_same h.asked h.between.port new.port h.exchanged)
+    same_then old.port h.between.port new.port (goes_same access h.done old h.between h.does) (exchanged_same h.asked h.between.port new.port h.exchanged)
 
 -- a session that has not ended keeps its port
-pub runs_same : (old new : Connected) (events : List Event) (bytes : List ℕ) → old.ended ≡ None → Runs old events bytes new → IsSamePort old.port new.port
+pub runs_same : (old new : Connected) (events : List LinkEvent) (bytes : List ℕ) → old.ended ≡ None → HandlesEvents old events bytes new → IsSamePort old.port new.port
 runs_same old new events bytes live r = step new.ended refl
   where
     acts : List Act
     acts = until_end (acts_from old.kept events)
 
-    goes : new.ended ≢ Some NoMemory → IsSamePort old.port new.port
-    goes other = goes_same old.access acts (point_of old []) (point_of new bytes) (r.live live other)
+    does : new.ended ≢ Some NoMemory → IsSamePort old.port new.port
+    does other = goes_same old.access acts (point_of old []) (point_of new bytes) (r.live live other)
 
     other_than : (ended : Option Ended) → new.ended ≡ ended → (ended ≡ Some NoMemory → ⊥) → IsSamePort old.port new.port
-    other_than ended is differs = goes (λ memory. differs (sym is ∙ memory))
+    other_than ended is differs = does (λ memory. differs (sym is ∙ memory))
 
     step : (ended : Option Ended) → new.ended ≡ ended → IsSamePort old.port new.port
     step None is = other_than None is (λ e. cc)

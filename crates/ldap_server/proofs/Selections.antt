@@ -35,12 +35,14 @@ pub sent_of-chosen : (selectors : List (List ℕ)) (types_only : Bool) (a : RawA
     → is_selected selectors a ≡ true → sent_of selectors types_only (a ∷ []) ≡ as_sent types_only a ∷ []
 sent_of-chosen selectors types_only a yes' = rw yes' refl
 
+-- an attribute that is not selected is not sent
 pub sent_of-other : (selectors : List (List ℕ)) (types_only : Bool) (a : RawAttribute)
     → is_selected selectors a ≡ false → sent_of selectors types_only (a ∷ []) ≡ []
 sent_of-other selectors types_only a no' = rw no' refl
 
 -- ---- entries that are sent one after the other
 
+-- at first no entry is sent
 pub sent_none : {X : Type 0} (f : X → List ℕ) (xs : List X) (p : Point) → p ≡ with_sent p (p.sent ++ flat_map f (take 0 xs))
 sent_none f xs p = ap (λ sent. with_sent p sent) (sym (append-nil p.sent))
 
@@ -54,12 +56,21 @@ sent_one f xs i x old mid new less is before one =
     one ∙ ap (λ p. with_sent p (p.sent ++ f x)) before
     ∙ ap (λ sent. with_sent old sent) (append_assoc old.sent (flat_map f (take i xs)) (f x) ∙ ap (λ ys. old.sent ++ ys) (sym more))
 
--- all, and then what follows
-pub sent_all : {X T E : Type 0} (f : X → List ℕ) (xs : List X) (i : ℕ) (later : List ℕ) (old mid new : Point) (r : Result T E) → length xs ≤ i
-    → mid ≡ with_sent old (old.sent ++ flat_map f (take i xs)) → Sends later mid r new → Sends (flat_map f xs ++ later) old r new
-sent_all f xs i later old mid new r all before sends =
-    let P : List _ → Type 0 = λ ys. mid ≡ with_sent old (old.sent ++ flat_map f ys) in
-    sends_more (flat_map f xs) later old mid new r (subst P (take_all i xs all) before) sends
+-- all
+pub sent_whole : {X : Type 0} (f : X → List ℕ) (xs : List X) (i : ℕ) (old new : Point) → length xs ≤ i
+    → new ≡ with_sent old (old.sent ++ flat_map f (take i xs)) → new ≡ with_sent old (old.sent ++ flat_map f xs)
+sent_whole f xs i old new all sent = sent ∙ ap (λ ys. with_sent old (old.sent ++ flat_map f ys)) (take_all i xs all)
+
+-- the first ones, then the others, and then what follows
+pub sent_then : {X T E : Type 0} (f : X → List ℕ) (first rest xs : List X) (later : List ℕ) (old mid between new : Point) (r : Result T E) → xs ≡ first ++ rest
+    → mid ≡ with_sent old (old.sent ++ flat_map f first) → between ≡ with_sent mid (mid.sent ++ flat_map f rest) → Sends later between r new
+    → Sends (flat_map f xs ++ later) old r new
+sent_then f first rest xs later old mid between new r parts before after sends =
+    let P : Point → Type 0 = λ p. between ≡ with_sent p (p.sent ++ flat_map f rest) in
+    let both : flat_map f first ++ flat_map f rest ≡ flat_map f xs = sym (flat_map-append f first rest) ∙ ap (flat_map f) (sym parts) in
+    let all : between ≡ with_sent old (old.sent ++ flat_map f xs) =
+    subst P before after ∙ ap (λ sent. with_sent old sent) (append_assoc old.sent (flat_map f first) (flat_map f rest) ∙ ap (λ ys. old.sent ++ ys) both) in
+    sends_more (flat_map f xs) later old between new r all sends
 
 -- memory ran out at one of them
 pub sent_part : {X : Type 0} (f : X → List ℕ) (xs : List X) (i : ℕ) (old mid new : Point)

@@ -1,5 +1,7 @@
 -- What a session sends, as octets.
-use Rattle.std.specs.Prelude.{ℕ, pos, List, [], Option, Some, None, codes}
+use Rattle.std.specs.Prelude.{ℕ, pos, List, [], Option, Some, None}
+use Rattle.ldap_constants.specs.declared.object_identifiers.TheConstants.{NOTICE_OF_DISCONNECTION}
+use Rattle.ldap_constants.specs.declared.result_codes.TheConstants.{PROTOCOL_ERROR}
 use Rattle.ldap_messages.specs.Operation.{Operation, bind_response, search_done, modify_response, add_response, delete_response, rename_response, compare_response, extended_response}
 use Rattle.ldap_messages.specs.Whole.{message_octets}
 use Rattle.schema_rules.specs.declared.raw.Change.{Change}
@@ -33,7 +35,7 @@ abbrev pub write_response : Change → Response
 write_response (change.Add name attributes) = Add
 write_response (change.Delete name) = Delete
 write_response (change.Modify name edits) = Modify
-write_response (change.Rename name rdn goes superior) = Rename
+write_response (change.Rename name rdn deletes_old superior) = Rename
 
 -- the kind of response that answers a request; Abandon and Unbind have none, and what only a server
 -- sends has none either
@@ -53,9 +55,8 @@ octets_to id (Some response) code = response_octets id response code
 
 -- ---- the Notice of Disconnection (RFC 4511, section 4.4.1)
 
-unfoldable pub notice_name : List ℕ
-notice_name = codes "1.3.6.1.4.1.1466.20036"
-
 -- with the code protocolError
 abbrev pub notice : List ℕ
-notice = message_with 0 (extended_response (result_of (pos 2), (Some notice_name, None)))
+notice =
+    message_with 0
+    (extended_response (result_of (pos PROTOCOL_ERROR), (Some NOTICE_OF_DISCONNECTION.now, None)))

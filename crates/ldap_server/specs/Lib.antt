@@ -1,5 +1,5 @@
 pub mod Encoding
-pub mod Exchanges
+pub mod PortCalls
 pub mod Following
 pub mod HandOuts
 pub mod Points
@@ -7,5 +7,5 @@ pub mod Seen
 pub mod Selecting
 pub mod Serving
 pub mod Session
-pub mod Standing
+pub mod SessionState
 pub mod Table

@@ -9,7 +9,7 @@ use Rattle.ldap_server.specs.declared.session.Session.{Session}
 abbrev pub point_in : {P : Type 0} → (P → PortState) → Session P → Point
 point_in state session = record {
   port = state session.port;
-  standing = record { bound = session.bound; searches = session.searches.items };
+  session = record { bound = session.bound; searches = session.searches.items };
   sent = session.sent.items;
 }
 
@@ -18,7 +18,7 @@ abbrev pub connected_by : {P : Type 0} → (P → PortState) → Connection P �
 connected_by state connection = record {
   port = state connection.session.port;
   access = connection.access;
-  standing = record {
+  session = record {
     bound = connection.session.bound;
     searches = connection.session.searches.items;
   };

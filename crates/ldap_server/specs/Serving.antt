@@ -5,13 +5,13 @@ use Rattle.std.specs.Io.KnownBytes.{Appends, Consumes, IsAtEnd, Keeps}
 use Rattle.sync_io.specs.Sink.{AppendsPrefix}
 use Rattle.ldap_session.specs.declared.ended.Ended.{Ended}
 use Rattle.ldap_session.specs.declared.ended.Ended.TheVariants.{EndOfInput, ReadFault, WriteFault}
-use Rattle.ldap_session.specs.declared.event.Event.{Event}
-use Rattle.ldap_session.specs.declared.event.Event.TheVariants.{Piece, Quiet, End}
-use Rattle.ldap_server.specs.Session.{Connected, Heeds, Runs}
+use Rattle.ldap_session.specs.declared.event.LinkEvent.{LinkEvent}
+use Rattle.ldap_session.specs.declared.event.LinkEvent.TheVariants.{Piece, Quiet, End}
+use Rattle.ldap_server.specs.Session.{Connected, HandlesEvent, HandlesEvents}
 use Rattle.ldap_server.specs.declared.connection.Out.{Out}
 
 -- the bytes that an event brings
-abbrev pub brought_by : Event → List ℕ
+abbrev pub brought_by : LinkEvent → List ℕ
 brought_by (Piece bytes now) = bytes
 brought_by Quiet = []
 brought_by End = []
@@ -23,7 +23,7 @@ pub record LinkBytes : Type 0 where
   pub held : Option (List ℕ)
 
 -- where the event is the end of the input, no byte is left
-abbrev pub IsEndAt : Event → Option (List ℕ) → Type 0
+abbrev pub IsEndAt : LinkEvent → Option (List ℕ) → Type 0
 IsEndAt (Piece bytes now) left = Unit {0}
 IsEndAt Quiet left = Unit {0}
 IsEndAt End left = IsAtEnd left
@@ -33,7 +33,7 @@ abbrev pub Takes : Connected → (left read left' read' : Option (List ℕ)) →
     → Type 0
 Takes old left read left' read' None new = (new ≡ old) × Keeps left left' × Keeps read read'
 Takes old left read left' read' (Some out) new =
-    (event : Event) × Heeds old event out.bytes out.ended new
+    (event : LinkEvent) × HandlesEvent old event out.bytes out.ended new
     × Consumes left left' (brought_by event) × Appends read read' (brought_by event)
     × IsEndAt event left'
 
@@ -43,20 +43,20 @@ IsEndOf ended new = ended ≢ ReadFault → ended ≢ WriteFault → new.ended �
 
 -- the last of these events came to a session that had not ended
 pub record EndsLive
-    (old : Connected) (events : List Event) (sent : List ℕ) (new : Connected) : Type 0 where
-  pub earlier : List Event
-  pub last : Event
+    (old : Connected) (events : List LinkEvent) (sent : List ℕ) (new : Connected) : Type 0 where
+  pub earlier : List LinkEvent
+  pub last : LinkEvent
   pub events_are : events ≡ earlier ++ last ∷ []
   pub between : Connected
   pub before : List ℕ
   pub after : List ℕ
   pub sent_is : sent ≡ before ++ after
-  pub runs : Runs old earlier before between
+  pub runs : HandlesEvents old earlier before between
   pub live : between.ended ≡ None
-  pub heeds : Heeds between last after new.ended new
+  pub handles : HandlesEvent between last after new.ended new
 
 -- no event comes after the one that ends a session
-abbrev pub IsPrompt : Connected → List Event → List ℕ → Connected → Type 0
+abbrev pub IsPrompt : Connected → List LinkEvent → List ℕ → Connected → Type 0
 IsPrompt old events sent new = (new.ended ≡ None) ⊎ EndsLive old events sent new
 
 -- Some events came: their bytes are what was read, and what was written is what the session sent
@@ -64,9 +64,9 @@ IsPrompt old events sent new = (new.ended ≡ None) ⊎ EndsLive old events sent
 pub record Serves
     (old : Connected) (before : LinkBytes) (ended : Ended) (new : Connected) (after : LinkBytes)
     : Type 0 where
-  pub events : List Event
+  pub events : List LinkEvent
   pub sent : List ℕ
-  pub runs : Runs old events sent new
+  pub runs : HandlesEvents old events sent new
   pub taken : Consumes before.left after.left (flat_map brought_by events)
   pub read : Appends before.read after.read (flat_map brought_by events)
   pub prefix : AppendsPrefix before.held after.held sent

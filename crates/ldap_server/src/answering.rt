@@ -2,7 +2,7 @@
 
 ghost use Rattle.std.specs.Prelude.{◌≡◌};
 ghost use Rattle.ldap_server.specs.Encoding.{octets_to, response_to};
-ghost use Rattle.ldap_server.specs.Points.{Outcome, Sends};
+ghost use Rattle.ldap_server.specs.Points.{PerformedOrBegun, Sends};
 ghost use Rattle.ldap_server.specs.Seen.{point_in};
 ghost use Rattle.ldap_server.specs.Table.{Answer, RequestAnswer, is_tested, tested_code};
 ghost use Rattle.ldap_session.specs.Acts.{end_by};
@@ -14,13 +14,10 @@ use crate::response::Response;
 use crate::session::Session;
 use crate::writing::write_response;
 use ldap_ber::{NoMemory, discard};
-use ldap_constants::PROTOCOL_ERROR;
+use ldap_constants::{PROTOCOL_ERROR, UNAVAILABLE_CRITICAL_EXTENSION};
 use ldap_messages::Control;
 use ldap_session::{Access, Ended, Request, has_unknown_critical};
 use sync_provider::Port;
-
-/// unavailableCriticalExtension (RFC 4511, appendix A.2).
-const UNAVAILABLE_CRITICAL_EXTENSION: u32 = 12;
 
 /// What a request came in: the ID and the controls of its message, and the time at which that came.
 #[derive(Clone, Copy)]
@@ -80,7 +77,7 @@ impl<P: Port> Session<P> {
     /// The code that is tested first: protocolError where the message ID is that of an open search,
     /// unavailableCriticalExtension where a critical control is not known for the operation.
     fn tested_code(&self, id: u32, request: &Request, controls: &[Control]) -> Option<u32>
-        ensures { result ≡ tested_code (point_in P.state self.now).standing id (shown request.now)
+        ensures { result ≡ tested_code (point_in P.state self.now).session id (shown request.now)
             controls.now }
     {
         if !is_tested(request) {
@@ -115,7 +112,7 @@ impl<P: Port> Session<P> {
         request: Request,
     ) -> Result<(), NoMemory>
         ensures home { P.home self.new.port ≡ P.home self.old.port }
-        ensures answer { Outcome (Answer access.now envelope.entry.now.id (shown request)
+        ensures answer { PerformedOrBegun (Answer access.now envelope.entry.now.id (shown request)
             envelope.entry.now.controls.now envelope.entry.now.now)
             (point_in P.state self.old) result (point_in P.state self.new) }
     {
@@ -137,7 +134,8 @@ impl<P: Port> Session<P> {
         request: Request,
     ) -> Result<(), NoMemory>
         ensures home { P.home self.new.port ≡ P.home self.old.port }
-        ensures answer { Outcome (RequestAnswer access.now envelope.entry.now.id (shown request)
+        ensures answer { PerformedOrBegun
+            (RequestAnswer access.now envelope.entry.now.id (shown request)
             envelope.entry.now.controls.now envelope.entry.now.now)
             (point_in P.state self.old) result (point_in P.state self.new) }
     {

@@ -1,7 +1,7 @@
 //! How a bind is answered (RFC 4511, section 4.2).
 
 ghost use Rattle.std.specs.Prelude.{◌≡◌};
-ghost use Rattle.ldap_server.specs.Points.{Outcome};
+ghost use Rattle.ldap_server.specs.Points.{PerformedOrBegun};
 ghost use Rattle.ldap_server.specs.Seen.{point_in};
 ghost use Rattle.ldap_server.specs.Table.{BindAnswer};
 
@@ -30,7 +30,7 @@ impl<P: Port> Session<P> {
         bind: &Bind,
     ) -> Result<(), NoMemory>
         ensures home { P.home self.new.port ≡ P.home self.old.port }
-        ensures answer { Outcome (BindAnswer access.now id
+        ensures answer { PerformedOrBegun (BindAnswer access.now id
             bind.now.version bind.now.name bind.now.authentication)
             (point_in P.state self.old) result (point_in P.state self.new) }
     {

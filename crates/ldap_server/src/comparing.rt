@@ -1,9 +1,9 @@
 //! How a comparison is answered (RFC 4511, section 4.10).
 
 ghost use Rattle.std.specs.Prelude.{◌≡◌};
-ghost use Rattle.ldap_server.specs.Points.{Outcome};
+ghost use Rattle.ldap_server.specs.Points.{PerformedOrBegun};
 ghost use Rattle.ldap_server.specs.Seen.{point_in};
-ghost use Rattle.ldap_server.specs.Table.{AnswersCode, Comes, CompareGives};
+ghost use Rattle.ldap_server.specs.Table.{AnswersCode, FindsCode, CompareGives};
 
 use crate::naming::name_of;
 use crate::response::Response;
@@ -23,7 +23,7 @@ pub(crate) struct Comparison {
 /// The code of a comparison.
 fn code_of_comparison<P: Port>(alloc: Global, port: &mut P, asked: &Comparison) -> u32
     ensures home { P.home port.new ≡ P.home port.old }
-    ensures comes { Comes (CompareGives asked.now.entry asked.now.name asked.now.value)
+    ensures finds { FindsCode (CompareGives asked.now.entry asked.now.name asked.now.value)
         (P.state port.old) result (P.state port.new) }
 {
     match name_of(alloc, &asked.entry) {
@@ -36,7 +36,7 @@ impl<P: Port> Session<P> {
     /// Answers a comparison.
     pub(crate) fn answer_comparison(&mut self, id: u32, asked: &Comparison) -> Result<(), NoMemory>
         ensures home { P.home self.new.port ≡ P.home self.old.port }
-        ensures answer { Outcome
+        ensures answer { PerformedOrBegun
             (AnswersCode (CompareGives asked.now.entry asked.now.name asked.now.value)
             id Response.Compare)
             (point_in P.state self.old) result (point_in P.state self.new) }

@@ -1,16 +1,17 @@
 //! A session of LDAP, as a machine of pieces, quiets and an end.
 
-ghost use Rattle.std.specs.Prelude.{◌≡◌, ◌≤◌, [], Some, Ok, IfErr, IfOk, drop, vec_len};
+ghost use Rattle.std.specs.Prelude.{◌≡◌, [], Some, Ok, IfErr, IfOk};
 ghost use Rattle.ldap_server.specs.Seen.{connected_by, home_in, point_in};
-ghost use Rattle.ldap_server.specs.Session.{Heeds, LivesOn, ended_by, fresh};
+ghost use Rattle.ldap_server.specs.Session.{HandlesEvent, ActsOnOrRunsOut, ended_by, fresh};
 ghost use Rattle.ldap_server.specs.Table.{DropsAll};
-ghost use Rattle.ldap_session.specs.declared.event.Event.TheVariants.{Piece, Quiet, End};
+ghost use Rattle.ldap_session.specs.declared.event.LinkEvent.TheVariants.{Piece, Quiet, End};
 
 use crate::session::Session;
 use ldap_ber::{NoMemory, Octets};
 use ldap_session::{Access, Ended};
 use std::alloc::{AllocError, Global};
 use std::mem;
+use sync_io::keep_rest;
 use sync_provider::Port;
 
 /// For how many bytes of a message that is not whole there is room from the beginning.
@@ -56,7 +57,7 @@ impl<P: Port> Connection<P> {
     /// now, and hands out.
     pub fn on_bytes(&mut self, piece: &[u8], now: u64) -> Out
         ensures home { home_in P.home self.new ≡ home_in P.home self.old }
-        ensures heeds { Heeds (connected_by P.state self.old) (Piece piece.now now)
+        ensures handles { HandlesEvent (connected_by P.state self.old) (Piece piece.now now)
             result.bytes result.ended (connected_by P.state self.new) }
     {
         if let Some(ended) = self.ended {
@@ -70,7 +71,7 @@ impl<P: Port> Connection<P> {
     /// Hands out where no byte came for a while.
     pub fn on_quiet(&mut self) -> Out
         ensures home { home_in P.home self.new ≡ home_in P.home self.old }
-        ensures heeds { Heeds (connected_by P.state self.old) Quiet
+        ensures handles { HandlesEvent (connected_by P.state self.old) Quiet
             result.bytes result.ended (connected_by P.state self.new) }
     {
         if let Some(ended) = self.ended {
@@ -84,7 +85,7 @@ impl<P: Port> Connection<P> {
     /// Ends the session where no byte will come, and drops its open searches.
     pub fn on_end(&mut self) -> Out
         ensures home { home_in P.home self.new ≡ home_in P.home self.old }
-        ensures heeds { Heeds (connected_by P.state self.old) End
+        ensures handles { HandlesEvent (connected_by P.state self.old) End
             result.bytes result.ended (connected_by P.state self.new) }
     {
         if let Some(ended) = self.ended {
@@ -98,7 +99,7 @@ impl<P: Port> Connection<P> {
     /// Gives the port back. Open searches are dropped.
     pub fn into_port(self) -> P
         ensures home { P.home result ≡ home_in P.home self }
-        ensures drops { DropsAll (connected_by P.state self).standing.searches
+        ensures drops { DropsAll (connected_by P.state self).session.searches
             (connected_by P.state self).port (P.state result) }
     {
         let Connection {
@@ -122,7 +123,7 @@ impl<P: Port> Connection<P> {
     fn take_piece(&mut self, piece: &[u8], now: u64) -> Result<Option<Ended>, NoMemory>
         ensures home { P.home self.new.session.port ≡ P.home self.old.session.port }
         ensures access { self.new.access ≡ self.old.access }
-        ensures lives { LivesOn self.old.access self.old.kept.items (Piece piece.now now)
+        ensures acts_on { ActsOnOrRunsOut self.old.access self.old.kept.items (Piece piece.now now)
             (point_in P.state self.old.session) result (point_in P.state self.new.session)
             self.new.kept.items }
     {
@@ -149,7 +150,7 @@ impl<P: Port> Connection<P> {
         ensures home { P.home self.new.session.port ≡ P.home self.old.session.port }
         ensures access { self.new.access ≡ self.old.access }
         ensures kept { self.new.kept ≡ self.old.kept }
-        ensures lives { LivesOn self.old.access self.old.kept.items Quiet
+        ensures acts_on { ActsOnOrRunsOut self.old.access self.old.kept.items Quiet
             (point_in P.state self.old.session) result (point_in P.state self.new.session)
             self.new.kept.items }
     {
@@ -191,19 +192,6 @@ fn over(alloc: Global, ended: Ended) -> Out
         bytes: Octets::from(Vec::new(alloc)),
         ended: Some(ended),
     }
-}
-
-/// Keeps what follows the first n bytes.
-fn keep_rest(kept: &mut Vec<u8>, count: usize)
-    requires { count ≤ vec_len kept.old }
-    ensures { kept.new.items ≡ drop count kept.old.items }
-{
-    if count == 0 {
-        return;
-    }
-    let len = kept.len();
-    kept.copy_within(count..len, 0);
-    kept.truncate(len - count);
 }
 
 /// How the session ended, where running out of memory ends it too.

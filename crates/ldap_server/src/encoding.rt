@@ -3,11 +3,11 @@
 ghost use Rattle.std.specs.Prelude.{◌≡◌, IfOk};
 ghost use Rattle.ldap_messages.specs.Operation.{operation_of, IsOfGrammar};
 ghost use Rattle.ldap_messages.specs.Whole.{message_octets, message_value};
-ghost use Rattle.ldap_server.specs.Encoding.{notice, notice_name};
+ghost use Rattle.ldap_server.specs.Encoding.{notice};
 
 use crate::response::result_with;
 use ldap_ber::{NoMemory, Octets, discard};
-use ldap_constants::PROTOCOL_ERROR;
+use ldap_constants::{NOTICE_OF_DISCONNECTION, PROTOCOL_ERROR};
 use ldap_messages::{ControlList, Message, Protocol};
 use std::alloc::{AllocError, Global};
 
@@ -29,20 +29,12 @@ pub(crate) fn encoded(alloc: Global, message: Message) -> Result<Octets, NoMemor
     octets
 }
 
-/// The object identifier of the Notice of Disconnection (RFC 4511, section 4.4.1).
-#[tactic(auto, unfolding(crate::specs::Encoding::notice_name))]
-fn notice_name(alloc: Global) -> Result<Octets, NoMemory>
-    ensures { IfOk result (λ name. name ≡ notice_name) }
-{
-    Octets::from_slice(alloc, b"1.3.6.1.4.1.1466.20036")
-}
-
 /// The Notice of Disconnection with protocolError, as it is sent.
 #[tactic(auto, unfolding(ldap_messages::specs::Operation::operation_of))]
 pub(crate) fn encoded_notice(alloc: Global) -> Result<Octets, NoMemory>
     ensures { IfOk result (λ octets. octets ≡ notice) }
 {
-    let name = notice_name(alloc)?;
+    let name = Octets::from_slice(alloc, NOTICE_OF_DISCONNECTION)?;
     let op = Protocol::ExtendedResponse {
         result: result_with(alloc, PROTOCOL_ERROR),
         name: Some(name),

@@ -1,25 +1,19 @@
 //! How searches are abandoned and cancelled (RFC 4511, section 4.11; RFC 3909).
 
 ghost use Rattle.std.specs.Prelude.{◌≡◌, ◌∷◌, [], option_copied};
-ghost use Rattle.ldap_server.specs.Points.{Outcome, Performed};
+ghost use Rattle.ldap_server.specs.Points.{PerformedOrBegun, IsPerformed};
 ghost use Rattle.ldap_server.specs.Seen.{point_in};
-ghost use Rattle.ldap_server.specs.Standing.{without};
+ghost use Rattle.ldap_server.specs.SessionState.{without};
 ghost use Rattle.ldap_server.specs.Table.{AbandonAnswer, CancelAnswer, DropsAll, ExtendedAnswer, TargetAnswer, search_of_id};
 
 use crate::SessionSearch;
 use crate::response::Response;
 use crate::session::{Session, drop_each};
 use ldap_ber::{NoMemory, Octets};
-use ldap_constants::{PROTOCOL_ERROR, SUCCESS};
+use ldap_constants::{CANCELED, NO_SUCH_OPERATION, PROTOCOL_ERROR, SUCCESS};
 use ldap_session::{cancels, target_of};
 use std::alloc::AllocError;
 use sync_provider::Port;
-
-/// canceled (RFC 3909, section 3).
-const CANCELED: u32 = 118;
-
-/// noSuchOperation (RFC 3909, section 3).
-const NO_SUCH_OPERATION: u32 = 119;
 
 /// The search whose message ID this is.
 fn found_of_id(searches: &[SessionSearch], target: i64) -> Option<&SessionSearch>
@@ -53,7 +47,7 @@ impl<P: Port> Session<P> {
     /// Drops the open search that an Abandon names, if there is one.
     pub(crate) fn abandon(&mut self, target: i64)
         ensures home { P.home self.new.port ≡ P.home self.old.port }
-        ensures answer { Performed
+        ensures answer { IsPerformed
             (AbandonAnswer (search_of_id target self.old.searches.items))
             (point_in P.state self.old) (point_in P.state self.new) }
     {
@@ -71,7 +65,7 @@ impl<P: Port> Session<P> {
         value: &Option<Octets>,
     ) -> Result<(), NoMemory>
         ensures home { P.home self.new.port ≡ P.home self.old.port }
-        ensures answer { Outcome (ExtendedAnswer id name.now value.now)
+        ensures answer { PerformedOrBegun (ExtendedAnswer id name.now value.now)
             (point_in P.state self.old) result (point_in P.state self.new) }
     {
         if !cancels(name) {
@@ -86,7 +80,7 @@ impl<P: Port> Session<P> {
     /// Answers a Cancel of this target, or of none where its value is outside the grammar.
     fn cancel_target(&mut self, id: u32, target: Option<i64>) -> Result<(), NoMemory>
         ensures home { P.home self.new.port ≡ P.home self.old.port }
-        ensures answer { Outcome (TargetAnswer id target)
+        ensures answer { PerformedOrBegun (TargetAnswer id target)
             (point_in P.state self.old) result (point_in P.state self.new) }
     {
         match target {
@@ -101,7 +95,7 @@ impl<P: Port> Session<P> {
     /// Cancels an open search, if there is one.
     fn cancel(&mut self, id: u32, search: Option<SessionSearch>) -> Result<(), NoMemory>
         ensures home { P.home self.new.port ≡ P.home self.old.port }
-        ensures answer { Outcome (CancelAnswer id search)
+        ensures answer { PerformedOrBegun (CancelAnswer id search)
             (point_in P.state self.old) result (point_in P.state self.new) }
     {
         let Some(search) = search else {

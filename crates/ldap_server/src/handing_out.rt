@@ -1,51 +1,84 @@
 //! How a session hands out what its open searches have pending.
 
 ghost use Rattle.std.specs.Prelude.{◌≡◌, ◌<◌, vec_len};
-ghost use Rattle.ldap_server.specs.HandOuts.{HandsOutAll, TurnEnds, place_after, searches_after};
-ghost use Rattle.ldap_server.specs.Points.{Outcome};
+ghost use Rattle.std.specs.List.{flat_map};
+ghost use Rattle.ldap_server.specs.HandOuts.{AreOfGrammar, EndsInGrammar, HandsOutAll, SendsLast, TurnEnds, octets_of, place_after, searches_after};
+ghost use Rattle.ldap_server.specs.Points.{PerformedOrBegun, Sends};
 ghost use Rattle.ldap_server.specs.Seen.{point_in};
 
 use crate::SessionSearch;
 use crate::session::Session;
-use ldap_ber::NoMemory;
+use ldap_ber::{NoMemory, discard};
+use ldap_messages::Message;
 use std::alloc::AllocError;
-use sync_provider::{Handed, Port};
+use sync_provider::{HandOutStop, HandedMessages, Port};
 
 /// The most messages that one search hands out at a time.
 const MOST_MESSAGES: usize = 64;
 
 impl<P: Port> Session<P> {
     /// Hands out what one search has pending, 64 messages at most, and gives whether it is still
-    /// open.
+    /// open. The port is asked once for all of them.
     fn hand_out(&mut self, search: SessionSearch) -> Result<bool, NoMemory>
         ensures home { P.home self.new.port ≡ P.home self.old.port }
         ensures turn { TurnEnds search
             (point_in P.state self.old) result (point_in P.state self.new) }
     {
-        for _ in 0..MOST_MESSAGES {
-            match self.port.hand_out(search.number) {
-                Handed::Message(message) => match self.send(message) {
-                    Ok(()) => {}
-                    Err(_) => return Err(AllocError),
-                },
-                Handed::Ended(_, message) => {
-                    return match self.send(message) {
-                        Ok(()) => Ok(false),
-                        Err(_) => Err(AllocError),
-                    };
-                }
-                Handed::Nothing => return Ok(true),
-                Handed::NoSuchSearch => return Ok(false),
-                Handed::NoMemory => return Err(AllocError),
+        let Ok(room) = Vec::with_capacity(self.alloc, MOST_MESSAGES) else {
+            return Err(AllocError);
+        };
+        let HandedMessages { messages, stop } = self
+            .port
+            .hand_out_several(search.number, MOST_MESSAGES, room);
+        match self.send_each(messages) {
+            Ok(()) => self.send_last(stop),
+            Err(_) => {
+                discard(stop);
+                Err(AllocError)
             }
         }
-        Ok(true)
+    }
+
+    /// Sends messages, in their order.
+    fn send_each(&mut self, messages: Vec<Message>) -> Result<(), NoMemory>
+        requires { AreOfGrammar messages.items }
+        ensures port { self.new.port ≡ self.old.port }
+        ensures sends { Sends (flat_map octets_of messages.items)
+            (point_in P.state self.old) result (point_in P.state self.new) }
+    {
+        for message in messages {
+            match self.send(message) {
+                Ok(()) => {}
+                Err(_) => return Err(AllocError),
+            }
+        }
+        Ok(())
+    }
+
+    /// Sends the last message of a search where that stops its messages, and gives whether the
+    /// search is still open.
+    fn send_last(&mut self, stop: HandOutStop) -> Result<bool, NoMemory>
+        requires { EndsInGrammar stop }
+        ensures port { self.new.port ≡ self.old.port }
+        ensures sends { SendsLast stop
+            (point_in P.state self.old) result (point_in P.state self.new) }
+    {
+        match stop {
+            HandOutStop::Enough => Ok(true),
+            HandOutStop::Ended(_, message) => match self.send(message) {
+                Ok(()) => Ok(false),
+                Err(_) => Err(AllocError),
+            },
+            HandOutStop::Nothing => Ok(true),
+            HandOutStop::NoSuchSearch => Ok(false),
+            HandOutStop::NoMemory => Err(AllocError),
+        }
     }
 
     /// Hands out of each open search, in the order of opening.
     pub(crate) fn hand_out_all(&mut self) -> Result<(), NoMemory>
         ensures home { P.home self.new.port ≡ P.home self.old.port }
-        ensures turns { Outcome HandsOutAll
+        ensures turns { PerformedOrBegun HandsOutAll
             (point_in P.state self.old) result (point_in P.state self.new) }
     {
         let mut place = 0;

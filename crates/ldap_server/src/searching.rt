@@ -1,11 +1,11 @@
 //! How a search is answered (RFC 4511, section 4.5; RFC 4533, section 3).
 
 ghost use Rattle.std.specs.Prelude.{◌≡◌, IfOk};
-ghost use Rattle.std.specs.Option.{option_copied};
 ghost use Rattle.ldap_messages.specs.Search as messages;
-ghost use Rattle.ldap_server.specs.Points.{Outcome};
+ghost use Rattle.ldap_parts.specs.Controls.{control_named};
+ghost use Rattle.ldap_server.specs.Points.{PerformedOrBegun};
 ghost use Rattle.ldap_server.specs.Seen.{point_in};
-ghost use Rattle.ldap_server.specs.Table.{Finds, Opens, OrSaysOther, SearchAnswer, SelectedAnswer, control_named, value_or_none};
+ghost use Rattle.ldap_server.specs.Table.{Finds, Opens, OrSendsOther, SearchAnswer, SelectedAnswer, value_or_empty};
 ghost use Rattle.ldap_session.specs.Shown.{search_shown};
 ghost use Rattle.sync_wire.specs.Requesting.{scope_number};
 
@@ -17,14 +17,11 @@ use crate::session::Session;
 use dn_names::Dn;
 use entry_tree::{Scope, Spec};
 use ldap_ber::{NoMemory, Octets, discard};
-use ldap_constants::{NO_SUCH_OBJECT, OTHER, SUCCESS, SYNC_REQUEST};
-use ldap_messages::{Control, SearchScope};
+use ldap_constants::{NO_SUCH_OBJECT, OTHER, SIZE_LIMIT_EXCEEDED, SUCCESS, SYNC_REQUEST};
+use ldap_messages::{Control, SearchScope, control_named};
 use ldap_session::SearchParameters;
 use std::alloc::{AllocError, Global};
 use sync_provider::{Accepted, PlainSearch, Port, SearchReply, SyncSearch};
-
-/// sizeLimitExceeded (RFC 4511, appendix A.2).
-const SIZE_LIMIT_EXCEEDED: u32 = 4;
 
 /// The scope of a specification.
 fn scope_of(scope: SearchScope) -> Scope
@@ -37,18 +34,9 @@ fn scope_of(scope: SearchScope) -> Scope
     }
 }
 
-/// The first control of this name.
-fn control_named<'a>(controls: &'a [Control], name: &[u8]) -> Option<&'a Control>
-    ensures { option_copied result ≡ control_named name.now controls.now }
-{
-    controls
-        .iter()
-        .find(|control| control.name.as_slice() == name)
-}
-
 /// The value of a control. None counts as one outside its grammar, as the empty value is.
 fn value_of(alloc: Global, control: &Control) -> Result<Octets, NoMemory>
-    ensures { IfOk result (λ value. value ≡ value_or_none control.now.value) }
+    ensures { IfOk result (λ value. value ≡ value_or_empty control.now.value) }
 {
     match &control.value {
         Some(value) => value.copy(),
@@ -66,7 +54,7 @@ impl<P: Port> Session<P> {
         controls: &[Control],
     ) -> Result<(), NoMemory>
         ensures home { P.home self.new.port ≡ P.home self.old.port }
-        ensures answer { Outcome (SearchAnswer id (search_shown asked) controls.now)
+        ensures answer { PerformedOrBegun (SearchAnswer id (search_shown asked) controls.now)
             (point_in P.state self.old) result (point_in P.state self.new) }
     {
         match name_of(self.alloc, &asked.base) {
@@ -87,7 +75,8 @@ impl<P: Port> Session<P> {
         controls: &[Control],
     ) -> Result<(), NoMemory>
         ensures home { P.home self.new.port ≡ P.home self.old.port }
-        ensures answer { Outcome (OrSaysOther id (SelectedAnswer id base (search_shown asked)
+        ensures answer { PerformedOrBegun
+            (OrSendsOther id (SelectedAnswer id base (search_shown asked)
             (control_named SYNC_REQUEST.now controls.now)))
             (point_in P.state self.old) result (point_in P.state self.new) }
     {
@@ -124,7 +113,7 @@ impl<P: Port> Session<P> {
         selection: Selection<'_>,
     ) -> Result<(), NoMemory>
         ensures home { P.home self.new.port ≡ P.home self.old.port }
-        ensures answer { Outcome
+        ensures answer { PerformedOrBegun
             (Finds ask id selection.entry.selectors.now selection.entry.types_only)
             (point_in P.state self.old) result (point_in P.state self.new) }
     {
@@ -143,10 +132,10 @@ impl<P: Port> Session<P> {
     /// Opens a search with content synchronisation, or answers the code that rejects it.
     fn answer_sync(&mut self, id: u32, spec: Spec, control: &Control) -> Result<(), NoMemory>
         ensures home { P.home self.new.port ≡ P.home self.old.port }
-        ensures answer { Outcome (OrSaysOther id (Opens (record {
+        ensures answer { PerformedOrBegun (OrSendsOther id (Opens (record {
           id = id;
           spec = spec;
-          control = value_or_none control.now.value;
+          control = value_or_empty control.now.value;
         })))
             (point_in P.state self.old) result (point_in P.state self.new) }
     {
@@ -163,7 +152,7 @@ impl<P: Port> Session<P> {
     /// so that a search that the port has opened is one of the session's.
     fn open_search(&mut self, ask: SyncSearch) -> Result<(), NoMemory>
         ensures home { P.home self.new.port ≡ P.home self.old.port }
-        ensures answer { Outcome (Opens ask)
+        ensures answer { PerformedOrBegun (Opens ask)
             (point_in P.state self.old) result (point_in P.state self.new) }
     {
         let id = ask.id;

@@ -1,11 +1,12 @@
 //! Entries as a search without content synchronisation is sent them (RFC 4511, section 4.5.2).
 
 ghost use Rattle.std.specs.Prelude.{◌≡◌, [], ◌∷◌, ◌++◌, codes, IfOk, OnOk};
-ghost use Rattle.std.specs.List.{list_any};
+ghost use Rattle.std.specs.List.{flat_map, list_any};
 ghost use Rattle.csn_cookie.specs.Csn.{csn_text};
 ghost use Rattle.ldap_messages.specs.Whole.{message_value};
 ghost use Rattle.schema_rules.specs.Schema.{type_named};
-ghost use Rattle.sync_wire.specs.Sending.{raw_of, single, uuid_text};
+ghost use Rattle.schema_rules.specs.Attributes.{raw_of};
+ghost use Rattle.sync_wire.specs.Sending.{single, uuid_text};
 ghost use Rattle.ldap_server.specs.Points.{Sends};
 ghost use Rattle.ldap_server.specs.Seen.{point_in};
 ghost use Rattle.ldap_server.specs.Selecting.{entries_and_done, entry_octets, entry_whole, is_chosen, is_type, has_operational, selected_of, selects_type, sent_of, values_sent};
@@ -26,6 +27,12 @@ const ALL_USER: &[u8] = b"*";
 
 /// The selector of every operational attribute (RFC 3673).
 const ALL_OPERATIONAL: &[u8] = b"+";
+
+/// By how many entries it is guessed how long an answer will be.
+const SAMPLE: usize = 64;
+
+/// For how many octets room is made at once: a directory weighs no more.
+const MOST_ROOM: usize = 67_108_864;
 
 /// What a search asks to be sent of each entry.
 #[derive(Clone, Copy)]
@@ -255,6 +262,43 @@ impl<P: Port> Session<P> {
         self.send(message)
     }
 
+    /// Sends entries, in their order.
+    fn send_each_entry(
+        &mut self,
+        id: u32,
+        entries: &[Entry],
+        selection: Selection<'_>,
+    ) -> Result<(), NoMemory>
+        ensures port { self.new.port ≡ self.old.port }
+        ensures sends { Sends
+            (flat_map (entry_octets id selection.entry.selectors.now
+            selection.entry.types_only) entries.now)
+            (point_in P.state self.old) result (point_in P.state self.new) }
+    {
+        for entry in entries {
+            match self.send_entry(id, entry, selection) {
+                Ok(()) => {}
+                Err(_) => return Err(AllocError),
+            }
+        }
+        Ok(())
+    }
+
+    /// Makes room for this many more entries, by the octets that some others have: so a long answer
+    /// is not moved as it grows, which would take its memory twice. Where memory runs out, no room
+    /// is made.
+    fn make_room(&mut self, octets: usize, count: usize, more: usize)
+        ensures port { self.new.port ≡ self.old.port }
+        ensures same { point_in P.state self.new ≡ point_in P.state self.old }
+    {
+        if count == 0 || more == 0 {
+            return;
+        }
+        let wanted = (octets / count).saturating_mul(more);
+        let room = wanted.saturating_add(wanted / 8).min(MOST_ROOM);
+        let _ = self.sent.reserve(room);
+    }
+
     /// Sends the entries, and the end with this code.
     pub(crate) fn send_entries(
         &mut self,
@@ -270,12 +314,16 @@ impl<P: Port> Session<P> {
             (point_in P.state self.old) result (point_in P.state self.new) }
     {
         let held = entries.list();
-        for entry in held {
-            match self.send_entry(id, entry, selection) {
-                Ok(()) => {}
-                Err(_) => return Err(AllocError),
-            }
+        let (first, rest) = held.split_at(held.len().min(SAMPLE));
+        let before = self.sent.len();
+        let Ok(()) = self.send_each_entry(id, first, selection) else {
+            return Err(AllocError);
+        };
+        let octets = self.sent.len().saturating_sub(before);
+        self.make_room(octets, first.len(), rest.len());
+        match self.send_each_entry(id, rest, selection) {
+            Ok(()) => self.respond(id, Response::SearchDone, code),
+            Err(_) => Err(AllocError),
         }
-        self.respond(id, Response::SearchDone, code)
     }
 }

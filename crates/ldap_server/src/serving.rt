@@ -3,9 +3,9 @@
 ghost use Rattle.std.specs.Prelude.{◌≡◌, ◌<◌, ◌≤◌, ℕ, None, Some, IsNone, length};
 ghost use Rattle.ldap_server.specs.Seen.{connected_by, home_in};
 ghost use Rattle.ldap_server.specs.Serving.{LinkBytes, Serves, Takes};
-ghost use Rattle.ldap_server.specs.Session.{Heeds};
+ghost use Rattle.ldap_server.specs.Session.{HandlesEvent};
 ghost use Rattle.ldap_session.specs.declared.ended.Ended.TheVariants.{ReadFault, WriteFault};
-ghost use Rattle.ldap_session.specs.declared.event.Event.TheVariants as event;
+ghost use Rattle.ldap_session.specs.declared.event.LinkEvent.TheVariants as event;
 ghost use Rattle.sync_io.specs.Faults.{CountHasRisen};
 
 use crate::connection::{Connection, Out};
@@ -34,7 +34,7 @@ fn pass_on<P: Port, C: Clock, G: Gate>(
     count: &mut PieceCount,
 ) -> Out
     ensures home { home_in P.home connection.new ≡ home_in P.home connection.old }
-    ensures heeds { (now : ℕ) × Heeds (connected_by P.state connection.old)
+    ensures handles { (now : ℕ) × HandlesEvent (connected_by P.state connection.old)
         (event.Piece piece.now now) result.bytes result.ended
         (connected_by P.state connection.new) }
 {

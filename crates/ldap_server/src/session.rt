@@ -6,7 +6,7 @@ ghost use Rattle.ldap_messages.specs.Whole.{message_octets, message_value};
 ghost use Rattle.ldap_server.specs.Encoding.{notice, response_octets};
 ghost use Rattle.ldap_server.specs.Points.{Sends};
 ghost use Rattle.ldap_server.specs.Seen.{point_in};
-ghost use Rattle.ldap_server.specs.Standing.{search_with};
+ghost use Rattle.ldap_server.specs.SessionState.{search_with};
 ghost use Rattle.ldap_server.specs.Table.{DropsAll};
 
 use crate::SessionSearch;

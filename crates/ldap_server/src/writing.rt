@@ -2,23 +2,20 @@
 
 ghost use Rattle.std.specs.Prelude.{◌≡◌};
 ghost use Rattle.ldap_server.specs.Encoding.{write_response};
-ghost use Rattle.ldap_server.specs.Points.{Outcome};
+ghost use Rattle.ldap_server.specs.Points.{PerformedOrBegun};
 ghost use Rattle.ldap_server.specs.Seen.{point_in};
-ghost use Rattle.ldap_server.specs.Table.{AnswersCode, ChangeGives, Comes};
+ghost use Rattle.ldap_server.specs.Table.{AnswersCode, ChangeGives, FindsCode};
 ghost use Rattle.ldap_session.specs.Binding.{may_write};
 
 use crate::response::Response;
 use crate::session::Session;
 use entry_tree::{OpFault, read_op};
 use ldap_ber::NoMemory;
-use ldap_constants::OTHER;
+use ldap_constants::{INSUFFICIENT_ACCESS_RIGHTS, OTHER};
 use ldap_session::{Access, may_write};
 use schema_rules::Change;
 use std::alloc::Global;
 use sync_provider::Port;
-
-/// insufficientAccessRights (RFC 4511, appendix A.2).
-const INSUFFICIENT_ACCESS_RIGHTS: u32 = 50;
 
 /// The kind of response that answers a write.
 pub(crate) fn write_response(change: &Change) -> Response
@@ -41,7 +38,7 @@ fn code_of_write<P: Port>(
     now: u64,
 ) -> u32
     ensures home { P.home port.new ≡ P.home port.old }
-    ensures comes { Comes (ChangeGives allowed change.now now)
+    ensures finds { FindsCode (ChangeGives allowed change.now now)
         (P.state port.old) result (P.state port.new) }
 {
     if !allowed {
@@ -64,7 +61,7 @@ impl<P: Port> Session<P> {
         now: u64,
     ) -> Result<(), NoMemory>
         ensures home { P.home self.new.port ≡ P.home self.old.port }
-        ensures answer { Outcome
+        ensures answer { PerformedOrBegun
             (AnswersCode (ChangeGives (may_write access.now self.old.bound) change.now now)
             id (write_response change.now))
             (point_in P.state self.old) result (point_in P.state self.new) }

@@ -4,8 +4,8 @@ use Rattle.std.specs.Prelude.{is_some, if◌then◌else◌}
 use Rattle.std.proofs.lemmas.List.{append-nil}
 use Rattle.ldap_session.specs.declared.ended.Ended.{Ended}
 use Rattle.ldap_session.specs.declared.ended.Ended.TheVariants.{EndOfInput}
-use Rattle.ldap_session.specs.declared.event.Event.{Event}
-use Rattle.ldap_session.specs.declared.event.Event.TheVariants.{Piece, Quiet, End}
+use Rattle.ldap_session.specs.declared.event.LinkEvent.{LinkEvent}
+use Rattle.ldap_session.specs.declared.event.LinkEvent.TheVariants.{Piece, Quiet, End}
 use Rattle.ldap_session.specs.Incoming.{Incoming, incoming_in, rest_of}
 use Rattle.ldap_session.specs.Acts.{Act, Answers, HandsOut, end_of, end_among, answers_of, acts_from, or_later}
 use Rattle.ldap_session.specs.Cuts.{bytes_of, until_over, end_in, has_end, end_by_input}
@@ -51,7 +51,7 @@ piece now bytes left later otherwise follows grown = step (end_among (answers_of
         let there : end_in (bytes ++ left) ≡ Some ended = kept ∙ some' in
         rw (append_assoc (answers_of now (incoming_in bytes)) (HandsOut ∷ []) later, end-over (answers_of now (incoming_in bytes)) (HandsOut ∷ later) ended some, there) refl
 
-end_from : (events : List Event) (kept : List ℕ) → incoming_in kept ≡ [] → end_among (acts_from kept events) ≡ or_later (end_in (kept ++ bytes_of events)) (if has_end events then Some EndOfInput else None)
+end_from : (events : List LinkEvent) (kept : List ℕ) → incoming_in kept ≡ [] → end_among (acts_from kept events) ≡ or_later (end_in (kept ++ bytes_of events)) (if has_end events then Some EndOfInput else None)
 end_from [] kept none = rw (append-nil kept, none) refl
 end_from (Piece bytes now ∷ events) kept none =
     rw (← append_assoc kept bytes (bytes_of events))
@@ -61,5 +61,5 @@ end_from (Quiet ∷ events) kept none = rw hands_on (end_from events kept none)
 end_from (End ∷ events) kept none = rw (leaves_end, append-nil kept, none) refl
 
 -- a session ends by its input alone
-pub end_anyhow : (events : List Event) → end_among (acts_from [] events) ≡ end_by_input events
+pub end_anyhow : (events : List LinkEvent) → end_among (acts_from [] events) ≡ end_by_input events
 end_anyhow events = end_from events [] (incoming_none [] nothing_read)

@@ -7,8 +7,8 @@ use Rattle.ldap_messages.specs.Frame.{Read, partial, refused, long, message, rea
 use Rattle.ldap_messages.proofs.StableLemmas.{read_stays}
 use Rattle.ldap_session.specs.declared.ended.Ended.{Ended}
 use Rattle.ldap_session.specs.declared.ended.Ended.TheVariants.{ProtocolFault}
-use Rattle.ldap_session.specs.declared.event.Event.{Event}
-use Rattle.ldap_session.specs.declared.event.Event.TheVariants.{Piece, Quiet, End}
+use Rattle.ldap_session.specs.declared.event.LinkEvent.{LinkEvent}
+use Rattle.ldap_session.specs.declared.event.LinkEvent.TheVariants.{Piece, Quiet, End}
 use Rattle.ldap_session.specs.Incoming.{Incoming, Arrived, Wrong, incoming_in, rest_of}
 use Rattle.ldap_session.specs.Acts.{Act, Answers, HandsOut, Leaves, end_of, until_end, end_among, answers_of, acts_from, or_later}
 use Rattle.ldap_session.specs.Cuts.{bytes_of, answered_by, until_over, end_in}
@@ -141,7 +141,7 @@ piece now bytes left later follows grown = step (end_among (answers_of now (inco
         rw (append_assoc (answers_of now (incoming_in bytes)) (HandsOut ∷ []) later, until-over (answers_of now (incoming_in bytes)) (HandsOut ∷ later) ended some, answered_until now (incoming_in bytes))
         (sym (grown.over ended (sym (end_until now (incoming_in bytes)) ∙ some)))
 
-cut_from : (events : List Event) (kept : List ℕ) → incoming_in kept ≡ [] → answered_by (until_end (acts_from kept events)) ≡ until_over (incoming_in (kept ++ bytes_of events))
+cut_from : (events : List LinkEvent) (kept : List ℕ) → incoming_in kept ≡ [] → answered_by (until_end (acts_from kept events)) ≡ until_over (incoming_in (kept ++ bytes_of events))
 cut_from [] kept none = rw (append-nil kept, none) refl
 cut_from (Piece bytes now ∷ events) kept none =
     rw (← append_assoc kept bytes (bytes_of events))
@@ -151,5 +151,5 @@ cut_from (Quiet ∷ events) kept none = rw hands_on (cut_from events kept none)
 cut_from (End ∷ events) kept none = rw (leaves_end, append-nil kept, none) refl
 
 -- what is answered are the messages of all bytes, whichever way they are cut
-pub cut_anyhow : (events : List Event) → answered_by (until_end (acts_from [] events)) ≡ until_over (incoming_in (bytes_of events))
+pub cut_anyhow : (events : List LinkEvent) → answered_by (until_end (acts_from [] events)) ≡ until_over (incoming_in (bytes_of events))
 cut_anyhow events = cut_from events [] (incoming_none [] nothing_read)

@@ -6,6 +6,7 @@ use Rattle.ldap_messages.specs.Frame.{Read, partial, refused, long, message, rea
 use Rattle.ldap_messages.proofs.FrameLemmas.{read_found, read_only}
 use Rattle.ldap_session.specs.Incoming.{Incoming, Arrived, Wrong, incoming_then, incoming_within, incoming_in, rest_then, rest_within, rest_of}
 
+-- without a byte no message is read yet
 pub nothing_read : read_of [] ≡ partial
 unfolding read_of
 nothing_read = refl

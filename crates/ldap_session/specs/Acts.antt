@@ -2,8 +2,8 @@
 use Rattle.std.specs.Prelude.{ℕ, List, [], ◌∷◌, ◌++◌, map, is_some, if◌then◌else◌, Option, Some, None}
 use Rattle.ldap_session.specs.declared.ended.Ended.{Ended}
 use Rattle.ldap_session.specs.declared.ended.Ended.TheVariants.{Unbound, EndOfInput, ProtocolFault}
-use Rattle.ldap_session.specs.declared.event.Event.{Event}
-use Rattle.ldap_session.specs.declared.event.Event.TheVariants.{Piece, Quiet, End}
+use Rattle.ldap_session.specs.declared.event.LinkEvent.{LinkEvent}
+use Rattle.ldap_session.specs.declared.event.LinkEvent.TheVariants.{Piece, Quiet, End}
 use Rattle.ldap_session.specs.Incoming.{Incoming, Arrived, Wrong, incoming_in, rest_of}
 use Rattle.ldap_session.specs.Requests.{Request, Binds, Unbinds, Writes, Compares, Searches, Abandons, Extends, Responds, request_of}
 
@@ -17,17 +17,17 @@ abbrev pub answers_of : ℕ → List Incoming → List Act
 answers_of now incoming = map (λ one. Answers one now) incoming
 
 -- the acts at one event, where these bytes were kept of a message that is not whole
-abbrev pub acts_at : List ℕ → Event → List Act
+abbrev pub acts_at : List ℕ → LinkEvent → List Act
 acts_at kept (Piece bytes now) = answers_of now (incoming_in (kept ++ bytes)) ++ HandsOut ∷ []
 acts_at kept Quiet = HandsOut ∷ []
 acts_at kept End = Leaves ∷ []
 
-abbrev pub kept_after : List ℕ → Event → List ℕ
+abbrev pub kept_after : List ℕ → LinkEvent → List ℕ
 kept_after kept (Piece bytes now) = rest_of (kept ++ bytes)
 kept_after kept Quiet = kept
 kept_after kept End = kept
 
-abbrev pub acts_from : List ℕ → List Event → List Act
+abbrev pub acts_from : List ℕ → List LinkEvent → List Act
 acts_from kept [] = []
 acts_from kept (event ∷ events) = acts_at kept event ++ acts_from (kept_after kept event) events
 

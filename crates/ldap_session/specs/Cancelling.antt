@@ -1,15 +1,13 @@
 -- The Cancel operation (RFC 3909).
-use Rattle.std.specs.Prelude.{ℕ, ℤ, pos, Bool, List, Option, Some, None, Result, Ok, Err, codes}
+use Rattle.std.specs.Prelude.{ℕ, ℤ, pos, Bool, List, Option, Some, None, Result, Ok, Err}
 use Rattle.std.specs.Str.{bytes_eq}
 use Rattle.ldap_ber.specs.Reading.{Reading, sequence_at, whole_at}
+use Rattle.ldap_constants.specs.declared.object_identifiers.TheConstants.{CANCEL}
 use Rattle.ldap_parts.specs.Components.{range_at}
 use Rattle.ldap_parts.specs.Faults.{place_of}
 
-unfoldable pub cancel_name : List ℕ
-cancel_name = codes "1.3.6.1.1.8"
-
 abbrev pub is_cancel : List ℕ → Bool
-is_cancel name = bytes_eq name cancel_name
+is_cancel name = bytes_eq name CANCEL.now
 
 -- cancelRequestValue ::= SEQUENCE { cancelID MessageID }
 unfoldable pub cancel_at : Reading ℕ ℕ

@@ -2,13 +2,13 @@
 use Rattle.std.specs.Prelude.{ℕ, Bool, true, false, List, [], ◌∷◌, ◌++◌, Option, Some, None, is_some, if◌then◌else◌}
 use Rattle.ldap_session.specs.declared.ended.Ended.{Ended}
 use Rattle.ldap_session.specs.declared.ended.Ended.TheVariants.{EndOfInput}
-use Rattle.ldap_session.specs.declared.event.Event.{Event}
-use Rattle.ldap_session.specs.declared.event.Event.TheVariants.{Piece, Quiet, End}
+use Rattle.ldap_session.specs.declared.event.LinkEvent.{LinkEvent}
+use Rattle.ldap_session.specs.declared.event.LinkEvent.TheVariants.{Piece, Quiet, End}
 use Rattle.ldap_session.specs.Acts.{Act, Answers, HandsOut, Leaves, answers_of, end_of, end_among, or_later}
 use Rattle.ldap_session.specs.Incoming.{Incoming, incoming_in}
 
 -- all bytes that came before the end of the input
-abbrev pub bytes_of : List Event → List ℕ
+abbrev pub bytes_of : List LinkEvent → List ℕ
 bytes_of [] = []
 bytes_of (Piece bytes now ∷ events) = bytes ++ bytes_of events
 bytes_of (Quiet ∷ events) = bytes_of events
@@ -32,13 +32,13 @@ abbrev pub end_in : List ℕ → Option Ended
 end_in bytes = end_among (answers_of 0 (incoming_in bytes))
 
 -- the end of the input came
-abbrev pub has_end : List Event → Bool
+abbrev pub has_end : List LinkEvent → Bool
 has_end [] = false
 has_end (Piece bytes now ∷ events) = has_end events
 has_end (Quiet ∷ events) = has_end events
 has_end (End ∷ events) = true
 
 -- how a session ends: by a message, or else with the input
-abbrev pub end_by_input : List Event → Option Ended
+abbrev pub end_by_input : List LinkEvent → Option Ended
 end_by_input events =
     or_later (end_in (bytes_of events)) (if has_end events then Some EndOfInput else None)

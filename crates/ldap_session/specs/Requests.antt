@@ -1,8 +1,8 @@
 -- What a message asks for, by its kind.
-use Rattle.std.specs.Prelude.{ℕ, ℤ, Bool, true, false, not, ◌&&◌, ◌||◌, List, Option, codes}
+use Rattle.std.specs.Prelude.{ℕ, ℤ, Bool, true, false, not, ◌&&◌, ◌||◌, List, Option}
 use Rattle.std.specs.List.{list_any}
 use Rattle.std.specs.Str.{bytes_eq}
-use Rattle.ldap_constants.specs.declared.object_identifiers.TheConstants.{SYNC_REQUEST}
+use Rattle.ldap_constants.specs.declared.object_identifiers.TheConstants.{MANAGE_DSA_IT, SYNC_REQUEST}
 use Rattle.ldap_filter.specs.FilterTree.{FilterTree}
 use Rattle.ldap_messages.specs.Operation.{Operation, bind, unbind, search, modify, add, delete, rename, compare, abandon, extended, bind_response, entry, search_done, reference, modify_response, add_response, delete_response, rename_response, compare_response, extended_response, intermediate}
 use Rattle.ldap_messages.specs.declared.bind.Authentication.{Authentication}
@@ -34,14 +34,10 @@ pub data Request : Type 0 where
 
 -- ---- controls (RFC 4511, section 4.1.11)
 
--- ManageDsaIT (RFC 3296, section 3)
-unfoldable pub manage_dsa_it : List ℕ
-manage_dsa_it = codes "2.16.840.1.113730.3.4.2"
-
 -- ManageDsaIT is known of every operation, Sync Request of a search
 abbrev pub is_known : Bool → Control → Bool
 is_known searches control =
-    bytes_eq control.name manage_dsa_it || (searches && bytes_eq control.name SYNC_REQUEST.now)
+    bytes_eq control.name MANAGE_DSA_IT.now || (searches && bytes_eq control.name SYNC_REQUEST.now)
 
 -- some control is critical and not known
 abbrev pub has_unknown_critical : Bool → List Control → Bool

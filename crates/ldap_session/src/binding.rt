@@ -7,24 +7,15 @@ ghost use Rattle.dn_names.specs.Reading.{name_of_text};
 use crate::Access;
 use dn_names::{Dn, NameFault};
 use ldap_ber::{NoMemory, Octets};
+use ldap_constants::{
+    AUTH_METHOD_NOT_SUPPORTED, INVALID_CREDENTIALS, INVALID_DN_SYNTAX, PROTOCOL_ERROR, SUCCESS,
+    UNWILLING_TO_PERFORM,
+};
 use ldap_messages::Authentication;
 use std::alloc::{AllocError, Global};
 
 /// The version of LDAP.
 const VERSION: u8 = 3;
-
-// Result codes (RFC 4511, appendix A).
-const SUCCESS: u32 = 0;
-
-const PROTOCOL_ERROR: u32 = 2;
-
-const AUTH_METHOD_NOT_SUPPORTED: u32 = 7;
-
-const INVALID_DN_SYNTAX: u32 = 34;
-
-const INVALID_CREDENTIALS: u32 = 49;
-
-const UNWILLING_TO_PERFORM: u32 = 53;
 
 /// The code that answers a bind: protocolError for another version, authMethodNotSupported for
 /// SASL, success without a name and a password, unwillingToPerform for a name without one,

@@ -7,14 +7,11 @@ ghost use Rattle.ldap_ber.specs.Reading.{whole_at};
 ghost use Rattle.ldap_session.specs.Cancelling.{is_cancel, cancel_at, target_of};
 
 use ldap_ber::{NoMemory, Octets, Reader};
+use ldap_constants::CANCEL;
 use ldap_parts::{ComponentFault, range_of};
 use std::alloc::AllocError;
 
-/// The object identifier of Cancel.
-const CANCEL: &[u8] = b"1.3.6.1.1.8";
-
 /// Whether an extended operation of this name is a Cancel.
-#[tactic(auto, unfolding(crate::specs::Cancelling::cancel_name))]
 pub fn cancels(name: &Octets) -> bool
     ensures { result ≡ is_cancel name.now }
 {
@@ -22,7 +19,7 @@ pub fn cancels(name: &Octets) -> bool
 }
 
 /// The message ID of the operation that is to be cancelled, or None where there is no value, or one
-/// outside its grammar.
+/// outside its grammar. It is `NoMemory` where memory runs out.
 #[tactic(auto, unfolding(crate::specs::Cancelling::target_of))]
 pub fn target_of(value: &Option<Octets>) -> Result<Option<i64>, NoMemory>
     ensures { IfOk result (λ target. target ≡ target_of value.now) }

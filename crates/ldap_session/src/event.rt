@@ -4,7 +4,7 @@ use ldap_ber::Octets;
 
 /// What comes over a link.
 #[derive(Drop)]
-pub enum Event {
+pub enum LinkEvent {
     /// Bytes, and the time at which they came.
     Piece(Octets, u64),
     /// No byte came for a while.

@@ -14,7 +14,7 @@ pub use access::Access;
 pub use binding::{bind_code, binds_as, may_write};
 pub use cancelling::{cancels, target_of};
 pub use ended::Ended;
-pub use event::Event;
+pub use event::LinkEvent;
 pub use laws::{
     cuts_change_no_message, the_configured_bind_alone_binds, the_input_decides_the_end,
 };

@@ -7,13 +7,10 @@ ghost use Rattle.ldap_session.specs.Shown.{shown};
 ghost use Rattle.ldap_session.specs.declared.request.Request.TheVariants.{Response};
 
 use ldap_ber::{Octets, OctetsList, discard};
-use ldap_constants::SYNC_REQUEST;
+use ldap_constants::{MANAGE_DSA_IT, SYNC_REQUEST};
 use ldap_filter::Filter;
 use ldap_messages::{Authentication, Control, Protocol, SearchScope};
 use schema_rules::Change;
-
-/// The object identifier of ManageDsaIT (RFC 3296, section 3).
-const MANAGE_DSA_IT: &[u8] = b"2.16.840.1.113730.3.4.2";
 
 /// What a search is asked about.
 #[derive(Drop)]
@@ -31,6 +28,7 @@ pub struct SearchParameters {
 /// What an operation asks for.
 #[derive(Drop)]
 pub enum Request {
+    /// The version, the name, and how the client says who it is.
     Bind(u8, Octets, Authentication),
     Unbind,
     Write(Change),
@@ -39,6 +37,7 @@ pub enum Request {
     Search(SearchParameters),
     /// The message ID of the operation that is to be abandoned.
     Abandon(i64),
+    /// The object identifier of the operation, and its value.
     Extended(Octets, Option<Octets>),
     /// What only a server sends.
     Response,
@@ -117,7 +116,6 @@ fn is_search(request: &Request) -> bool
     matches!(request, Request::Search(_))
 }
 
-#[tactic(auto, unfolding(crate::specs::Requests::manage_dsa_it))]
 fn is_known(searches: bool, control: &Control) -> bool
     ensures { result ≡ is_known searches control.now }
 {

@@ -12,6 +12,7 @@ pub unfolded_cons : (number : ℕ) (text : List ℕ) (texts : List (List ℕ)) �
 unfolding unfolded
 unfolded_cons number text texts = refl
 
+-- a text without lines has none
 pub unfolded_nil : (number : ℕ) → unfolded number [] ≡ []
 unfolding unfolded
 unfolded_nil number = refl
@@ -62,6 +63,7 @@ pub onto_more : (first last number next : ℕ) (whole longer text : List ℕ) (h
 onto_more first last number next whole longer text here texts e h n l =
     rw (h, n, l, unfolded_cons) (onto_onto first last number whole text (unfolded (next_number number) texts) e)
 
+-- a line with more after it is not empty
 pub filled_more : (whole longer text : List ℕ) → is_empty whole ≡ false → longer ≡ whole ++ text → is_empty longer ≡ false
 filled_more [] longer text e l = cc
 filled_more (b ∷ whole) longer text e l = rw l refl
@@ -70,10 +72,12 @@ filled_more (b ∷ whole) longer text e l = rw l refl
 pub left_nil : (number : ℕ) (texts : List (List ℕ)) → texts ≡ [] → unfolded number texts ≡ []
 left_nil number texts e = rw e (unfolded_nil number)
 
+-- an empty line is a line of its own
 pub left_empty : (number next : ℕ) (text whole : List ℕ) (here texts : List (List ℕ)) → here ≡ text ∷ texts → next ≡ next_number number → whole ≡ text → is_empty whole ≡ true
     → unfolded number here ≡ line_of number number whole ∷ unfolded next texts
 left_empty number next text whole here texts h n w e = rw (h, n, ← w, unfolded_cons) (onto_empty (line_of number number whole) (unfolded (next_number number) texts) e)
 
+-- a line that nothing continues is a line of its own
 pub left_cons : (number next : ℕ) (text whole : List ℕ) (here texts : List (List ℕ)) → here ≡ text ∷ texts → next ≡ next_number number → whole ≡ text
     → unfolded number here ≡ onto (line_of number number whole) (unfolded next texts)
 left_cons number next text whole here texts h n w = rw (h, n, w) (unfolded_cons number text texts)

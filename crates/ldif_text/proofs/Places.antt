@@ -6,6 +6,7 @@ use Rattle.std.proofs.Math.Numerals.{one-add}
 use Rattle.schema_rules.specs.declared.raw.RawAttribute.{RawAttribute}
 use Rattle.ldif_text.specs.Record.{with_value, is_of_type}
 
+-- a value more of a type that is there
 pub with_value-there : (attrs : List RawAttribute) (name value : List ℕ) (x : RawAttribute) → position_or_len (is_of_type name) attrs < length attrs → x ≡ get_or attrs (position_or_len (is_of_type name) attrs) x
     → set attrs (position_or_len (is_of_type name) attrs) (record { name = x.name; values = x.values ++ value ∷ [] }) ≡ with_value attrs name value
 with_value-there [] name value x l r = absurd (omega arith)
@@ -18,6 +19,7 @@ with_value-there (a ∷ attrs) name value x l r =
           rw (miss, one-add) (ap (λ l. a ∷ l) (with_value-there attrs name value x (omega arith) r'))
     ]
 
+-- a value of a type that is not there yet
 pub with_value-new : (attrs : List RawAttribute) (name value : List ℕ) → length attrs ≡ position_or_len (is_of_type name) attrs
     → attrs ++ record { name = name; values = value ∷ [] } ∷ [] ≡ with_value attrs name value
 with_value-new [] name value e = refl

@@ -89,5 +89,6 @@ content_of begun all (line ∷ lines) found h e =
     let head = content_head all line lines h in
     omega (arith, head.1, from_shorter begun line lines found head.0 e)
 
+-- after a record there are fewer lines
 pub next_shorter : (begun : Bool) (lines : List Line) (found : Found) → record_from begun (from_content lines) ≡ Ok (Some found) → length found.after.lines < length lines
 next_shorter begun lines found e = content_of begun lines (from_content lines) found refl e

@@ -5,20 +5,21 @@ use Rattle.std.proofs.lemmas.List.{append-nil}
 use Rattle.std.proofs.lemmas.List.Folds.{list_any-append}
 use Rattle.std.proofs.lemmas.List.FromFn.{get_or-map-range_with_len}
 use Rattle.std.proofs.lemmas.Slice.Eq.{bytes_eq-Decides}
-use Rattle.std.specs.Prelude.{codes, position, All, AllPairs}
+use Rattle.std.specs.Prelude.{codes, All, AllPairs}
 use Rattle.std.specs.List.{list_all, list_any, flat_map, range_with_len}
 use Rattle.std.specs.Str.{bytes_eq, str_eq_ignore_ascii_case, str_to_ascii_lowercase}
 use Rattle.base64.specs.GeneralPurpose.{IsBytes}
 use Rattle.schema_rules.specs.declared.attributes.Attribute.{Attribute}
 use Rattle.schema_rules.specs.declared.raw.RawAttribute.{RawAttribute}
 use Rattle.schema_rules.specs.declared.raw.Change.TheVariants.{Add}
-use Rattle.schema_rules.specs.Schema.{TypeRow, types, type_name, type_named}
-use Rattle.schema_rules.proofs.Tables.{found_by_name}
+use Rattle.schema_rules.specs.Schema.{types, type_name}
+use Rattle.schema_rules.proofs.Tables.{found_by_name, type_named-alike}
 use Rattle.ldif_text.specs.declared.field.Field.{Field}
 use Rattle.ldif_text.specs.Lines.{unfolded, from_content, text_lines}
 use Rattle.ldif_text.specs.Record.{with_value, is_of_type}
 use Rattle.ldif_text.specs.Reader.{RecordReader, record_from}
-use Rattle.ldif_text.specs.Written.{value_text, line_text, attributes_text, entry_text, raw_of, IsEntry}
+use Rattle.schema_rules.specs.Attributes.{raw_of}
+use Rattle.ldif_text.specs.Written.{value_text, line_text, attributes_text, entry_text, IsEntry}
 use Rattle.ldif_text.proofs.WrittenLines.{in_line, is_good_name, body_of_field, joined_text, lines-joined_text, field_in_line}
 use Rattle.ldif_text.proofs.WrittenRecords.{AreGood, numbered, blank_after, unfolded-fields, joined_onto, name_field, after_fields, fields_back, blank_rest}
 
@@ -85,16 +86,11 @@ unfolding types
 known_below kind low = omega (arith, low)
 
 -- two types have names that differ in more than case
-same_named : (one other : List ℕ) → str_eq_ignore_ascii_case one other ≡ true → type_named one ≡ type_named other
-unfolding type_named
-same_named one other same =
-    ap (λ l. position (λ (row : TypeRow). bytes_eq (str_to_ascii_lowercase row.name) l) types) ((bytes_eq-Decides (str_to_ascii_lowercase one) (str_to_ascii_lowercase other)).0 same)
-
 apart : (one other : ℕ) → one < 24 → other < 24 → one ≢ other → str_eq_ignore_ascii_case (type_name one) (type_name other) ≡ false
 apart one other low high differ =
     elim (cases_Bool (str_eq_ignore_ascii_case (type_name one) (type_name other))) [
       | inl hit ↦
-          let same : Some one ≡ Some other = sym (found_by_name one one refl low) ∙ same_named (type_name one) (type_name other) hit ∙ found_by_name other other refl high in
+          let same : Some one ≡ Some other = sym (found_by_name one one refl low) ∙ type_named-alike (type_name one) (type_name other) hit ∙ found_by_name other other refl high in
           absurd (differ cc)
       | inr miss ↦ miss
     ]
@@ -232,6 +228,7 @@ entry_back begun number name attrs first bytes known once =
     ∙ read
     ∙ ap (λ rs. Ok (Some (record { change = Add name rs; after = after_fields number number (name_field name ∷ fields_of attrs) }))) (attributes_joined [] attrs known once (new_all attrs))
 
+-- the text of an entry is read as its add
 pub written_back : (begun : Bool) (number : ℕ) (name : List ℕ) (attrs : List Attribute) → IsEntry name attrs
     → (after : RecordReader) × (record_from begun (from_content (text_lines number (entry_text name attrs None))) ≡ Ok (Some (record { change = Add name (map raw_of attrs); after = after }))) × (from_content after.lines ≡ [])
 written_back begun number name attrs is =

@@ -41,6 +41,7 @@ all_at p (c ∷ xs) (suc k) z e = all_at p xs k z (and_parts (p c) (list_all p x
 abbrev pub in_line : ℕ → Bool
 in_line c = not (c == 10) && not (c == 13)
 
+-- the first mark cuts what stands before it
 pub cut_prefix : (mark : ℕ) (prefix rest : List ℕ) → list_all (λ c. not (c == mark)) prefix ≡ true → cut mark (prefix ++ mark ∷ rest) ≡ (prefix, Some rest)
 cut_prefix mark [] rest e = rw (eq-eqb mark mark refl) refl
 cut_prefix mark (c ∷ prefix) rest e =
@@ -63,6 +64,7 @@ lines_more line rest e =
 abbrev pub joined_text : List (List ℕ) → List ℕ
 joined_text texts = flat_map (λ l. l ++ 10 ∷ []) texts
 
+-- lines that are written are read as these lines
 pub lines-joined_text : (texts : List (List ℕ)) → list_all (list_all in_line) texts ≡ true → lines (joined_text texts) ≡ texts
 lines-joined_text [] e = refl
 lines-joined_text (line ∷ texts) e =
@@ -120,6 +122,7 @@ plain_in_line (c ∷ value) e = safe_in_line (c ∷ value) (plain_parts c value 
 abbrev pub after_colon : List ℕ → List ℕ
 after_colon value = if is_plain value then 32 ∷ value else 58 ∷ 32 ∷ encode_of standard value
 
+-- what is written of a value begins with the colon
 pub value_text_after : (value : List ℕ) → value_text value ≡ 58 ∷ after_colon value
 unfolding value_text
 value_text_after value =
@@ -172,6 +175,7 @@ prefix_begins : (mark : ℕ) (name rest : List ℕ) → begins_with mark name �
 prefix_begins mark [] rest e n = n
 prefix_begins mark (c ∷ name) rest e n = e
 
+-- a field is one line
 pub field_in_line : (f : Field) → is_good_name f.name ≡ true → list_all in_line (body_of_field f) ≡ true
 field_in_line f good =
     let h = and_parts (list_all (λ c. in_line c && not (c == 58)) f.name) _ good in
@@ -179,18 +183,21 @@ field_in_line f good =
     (all_append in_line f.name (58 ∷ after_colon f.value) (all_weaker (λ c. in_line c && not (c == 58)) in_line (λ c p. (and_parts (in_line c) (not (c == 58)) p).0) f.name h.0)
     (after_colon_in_line f.value))
 
+-- it continues none
 pub field_not_continued : (f : Field) → is_good_name f.name ≡ true → is_continuation (body_of_field f) ≡ false
 field_not_continued f good =
     let h = and_parts (list_all (λ c. in_line c && not (c == 58)) f.name) _ good in
     let operational = and_parts (not (begins_with 32 f.name)) (not (begins_with 35 f.name)) h.1 in
     rw value_text_after (prefix_begins 32 f.name (after_colon f.value) (not-true (begins_with 32 f.name) operational.0) refl)
 
+-- it is no comment
 pub field_not_comment : (f : Field) → is_good_name f.name ≡ true → begins_with 35 (body_of_field f) ≡ false
 field_not_comment f good =
     let h = and_parts (list_all (λ c. in_line c && not (c == 58)) f.name) _ good in
     let operational = and_parts (not (begins_with 32 f.name)) (not (begins_with 35 f.name)) h.1 in
     rw value_text_after (prefix_begins 35 f.name (after_colon f.value) (not-true (begins_with 35 f.name) operational.1) refl)
 
+-- it is read as that field
 pub field_back : (first last : ℕ) (f : Field) → is_good_name f.name ≡ true → IsBytes f.value → field_of (record { first = first; last = last; text = body_of_field f }) ≡ Ok f
 unfolding field_of
 field_back first last f good bytes =

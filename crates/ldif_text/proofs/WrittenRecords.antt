@@ -38,6 +38,7 @@ not_continued : (fields : List Field) → AreGood fields → is_continued (map b
 not_continued [] good = refl
 not_continued (f ∷ fields) good = field_not_continued f good.0
 
+-- written fields are lines with their numbers
 pub unfolded-fields : (number : ℕ) (fields : List Field) → AreGood fields → unfolded number (map body_of_field fields ++ [] ∷ []) ≡ numbered number fields ++ blank_after number fields ∷ []
 unfolded-fields number [] good = unfolded_cons number [] [] ∙ ap (onto (line_at number [])) (unfolded_nil (next_number number))
 unfolded-fields number (f ∷ fields) good =
@@ -121,6 +122,7 @@ record_back last number name f fields bytes good other =
     ∙ ap (λ (ls : List Line). Ok (record { change = Add name (joined_onto [] (f ∷ fields)); after = record { lines = ls; line = last_number last (numbered number all); begun = true } }))
     (blank_left number all blank end)
 
+-- they are read as one record
 pub fields_back : (begun : Bool) (number : ℕ) (name : List ℕ) (f : Field) (fields : List Field) → IsBytes name → AreGood (f ∷ fields) → bytes_eq f.name (codes "changetype") ≡ false
     → record_from begun (numbered number (name_field name ∷ f ∷ fields) ++ blank_after number (name_field name ∷ f ∷ fields) ∷ [])
     ≡ Ok (Some (record { change = Add name (joined_onto [] (f ∷ fields)); after = after_fields number number (name_field name ∷ f ∷ fields) }))
@@ -129,5 +131,6 @@ fields_back true number name f fields bytes good other =
 fields_back false number name f fields bytes good other =
     rw (no_version number number (name_field name) refl bytes refl) (ap (λ r. r >>= λ found. Ok (Some found)) (record_back number number name f fields bytes good other))
 
+-- after it nothing is left
 pub blank_rest : (last number : ℕ) (fields : List Field) → from_content (after_fields last number fields).lines ≡ []
 blank_rest last number fields = rw (blank_empty number fields) refl

@@ -4,7 +4,8 @@ use Rattle.schema_rules.specs.declared.attributes.Attribute.{Attribute}
 use Rattle.schema_rules.specs.declared.raw.Change.TheVariants.{Add}
 use Rattle.ldif_text.specs.Lines.{text_lines, from_content}
 use Rattle.ldif_text.specs.Reader.{RecordReader, next_record}
-use Rattle.ldif_text.specs.Written.{entry_text, raw_of}
+use Rattle.schema_rules.specs.Attributes.{raw_of}
+use Rattle.ldif_text.specs.Written.{entry_text}
 
 -- a reader at the text of the entry, whose lines have any numbers, finds the add of this entry, and
 -- no content after it

@@ -5,4 +5,5 @@ pub mod Field
 pub mod Record
 pub mod Reader
 pub mod Written
+pub mod Received
 pub mod Again

@@ -7,7 +7,6 @@ use Rattle.base64.specs.GeneralPurpose.{IsBytes, encode_of}
 use Rattle.uuid.specs.Text.{hyphenated_text, lower}
 use Rattle.csn_cookie.specs.Csn.{CsnValue, csn_text}
 use Rattle.schema_rules.specs.declared.attributes.Attribute.{Attribute}
-use Rattle.schema_rules.specs.declared.raw.RawAttribute.{RawAttribute}
 use Rattle.schema_rules.specs.Attributes.{IsAttributeList}
 use Rattle.schema_rules.specs.Schema.{types, type_name}
 
@@ -61,10 +60,6 @@ abbrev pub entry_text : List ℕ → List Attribute → Option (ℕ × CsnValue)
 entry_text name attrs operational =
     line_text (codes "dn") name
     ++ (attributes_text attrs ++ (operational_text operational ++ codes "\n"))
-
--- the attribute by the name of its type
-abbrev pub raw_of : Attribute → RawAttribute
-raw_of a = record { name = type_name a.kind; values = a.values }
 
 -- a name and attributes of bytes, the types from the table, one attribute at least
 pub record IsEntry (name : List ℕ) (attrs : List Attribute) : Type 0 where

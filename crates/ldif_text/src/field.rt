@@ -19,7 +19,9 @@ pub struct Field {
     pub value: Octets,
 }
 
-/// The name before the first colon of the line, and the value after it.
+/// The name before the first colon of the line, and the value after it (RFC 2849). It is `BadLine`
+/// for a line that has none, continues nothing or gives a URL, `BadBase64` for a value that is not
+/// in the padded standard form, or `NoMemory`.
 #[tactic(auto, unfolding(crate::specs::Field::field_of))]
 pub fn field_of(alloc: Global, line: &Line) -> Result<Field, LdifFault>
     ensures { Gives Refuses (λ x. Ok x) result (spec.field_of line.now) }
@@ -71,7 +73,7 @@ fn unspaced(bytes: &[u8]) -> &[u8]
     b""
 }
 
-/// The value of a line of this very name.
+/// The value of a line of this very name. Else it is a fault of `field_of`, or `BadChange`.
 #[tactic(auto, unfolding(crate::specs::Field::keyword))]
 pub fn keyword(alloc: Global, name: &[u8], line: &Line) -> Result<Octets, LdifFault>
     ensures { Gives Refuses (λ x. Ok x) result (spec.keyword name.now line.now) }
@@ -84,7 +86,8 @@ pub fn keyword(alloc: Global, name: &[u8], line: &Line) -> Result<Octets, LdifFa
     }
 }
 
-/// The value of a line of this type, whose name is without regard to ASCII case.
+/// The value of a line of this type, whose name is without regard to ASCII case. Else it is a fault
+/// of `field_of`, or `BadChange`.
 #[tactic(auto, unfolding(crate::specs::Field::value_of_type))]
 pub fn value_of_type(alloc: Global, name: &[u8], line: &Line) -> Result<Octets, LdifFault>
     ensures { Gives Refuses (λ x. Ok x) result (spec.value_of_type name.now line.now) }

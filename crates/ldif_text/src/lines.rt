@@ -135,7 +135,8 @@ fn continuation_at(text: &[u8], cursor: Cursor) -> Option<(&[u8], Cursor)>
     }
 }
 
-/// The next line with those that continue it, and the place after them.
+/// The next line with those that continue it, and the place after them. It is `NoMemory` where
+/// memory runs out.
 pub fn joined_line(
     alloc: Global,
     text: &[u8],
@@ -208,7 +209,8 @@ fn continued(
     Ok((whole, place))
 }
 
-/// The place of the next line that is neither empty nor a comment, or the end of the text.
+/// The place of the next line that is neither empty nor a comment, or the end of the text. It is
+/// `NoMemory` where memory runs out.
 pub fn content_place(alloc: Global, text: &[u8], cursor: Cursor) -> Result<Cursor, NoMemory>
     requires { cursor.at ≤ length text.now }
     ensures left { IfOk result (λ x.
@@ -225,7 +227,8 @@ pub fn content_place(alloc: Global, text: &[u8], cursor: Cursor) -> Result<Curso
     Ok(place)
 }
 
-/// The lines before the next empty line, without the comments, and the place after them.
+/// The lines before the next empty line, without the comments, and the place after them. It is
+/// `NoMemory` where memory runs out.
 pub fn record_lines(
     alloc: Global,
     text: &[u8],

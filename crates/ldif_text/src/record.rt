@@ -14,7 +14,8 @@ use ldap_ber::{NoMemory, Octets, OctetsList};
 use schema_rules::{Change, EditList, How, RawAttribute, RawEdit, RawList};
 use std::alloc::Global;
 
-/// The change of a record whose last line has this number.
+/// The change of a record whose last line has this number (RFC 2849). Else it is the first fault of
+/// its lines, in their order.
 pub fn change_of(alloc: Global, last: u64, lines: &[Line]) -> Result<Change, LdifFault>
     ensures { Gives Refuses (λ x. Ok x) result (spec.change_of last lines.now) }
 {

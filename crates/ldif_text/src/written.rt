@@ -95,7 +95,12 @@ fn push_uuid(alloc: Global, text: &mut Vec<u8>, uuid: u128) -> Result<(), NoMemo
 
 /// Appends a line with the value after the name.
 #[tactic(auto, unfolding(crate::specs::Written::line_text))]
-fn push_line(alloc: Global, text: &mut Vec<u8>, name: &[u8], value: &[u8]) -> Result<(), NoMemory>
+pub(crate) fn push_line(
+    alloc: Global,
+    text: &mut Vec<u8>,
+    name: &[u8],
+    value: &[u8],
+) -> Result<(), NoMemory>
     ensures { OnOk result (text.new.items ≡ text.old.items ++ spec.line_text name.now value.now) }
 {
     text.extend_from_slice(name)?;

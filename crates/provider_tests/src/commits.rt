@@ -3,9 +3,9 @@
 ghost use Rattle.std.specs.Prelude.{◌≡◌, true, nat_le, IfOk};
 ghost use Rattle.std.specs.List.{list_all};
 ghost use Rattle.entry_tree.specs.Fitting.{is_within_entry_limit};
-ghost use Rattle.entry_tree.specs.Sound.{is_sound_attribute, is_sound_put};
+ghost use Rattle.entry_tree.specs.Sound.{is_sound_put};
 ghost use Rattle.entry_tree.specs.State.{most_entry_weight};
-ghost use Rattle.schema_rules.specs.Attributes.{weight_of};
+ghost use Rattle.schema_rules.specs.Attributes.{weight_of, is_given};
 
 use crate::rows::{number, push_counted, push_word};
 use crate::writes::{raw_list, unit};
@@ -119,7 +119,7 @@ fn entry_of(alloc: Global, uuid: u64, name: &str) -> Result<Entry, Fail>
 
 #[tactic(auto, using(crate::proofs::Puts::sound_attributes))]
 pub(crate) fn attributes(alloc: Global, list: RawList) -> Result<Attrs, Fail>
-    ensures sound { IfOk result (λ attrs. list_all is_sound_attribute attrs ≡ true) }
+    ensures sound { IfOk result (λ attrs. list_all is_given attrs ≡ true) }
     ensures light { IfOk result (λ attrs. nat_le (weight_of attrs) most_entry_weight ≡ true) }
 {
     let attrs = Attrs::read(alloc, &list);

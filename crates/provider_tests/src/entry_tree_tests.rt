@@ -328,6 +328,56 @@ const SELECTED: [Row; 8] = [
     ),
 ];
 
+/// Equalities directly below a base, where each entry that has the type has it as its whole RDN, and
+/// where one has it otherwise. They are True of an entry some value of which matches (RFC 4511,
+/// section 4.5.1.7), whatever its name.
+const EQUALITIES: [Row; 6] = [
+    (
+        "modify ou=b,o=x|-ou=bb / select one (ou=a) o=x / select one (OU=B) O=X / \
+         select one (ou=s) o=x / select one (ou=s) OU=A,o=x / select one (foo=a) o=x / \
+         select base (ou=a) ou=a,o=x / select sub (ou=s) o=x",
+        "0 true [2] true [3] true [] true [5] true [] true [2] true [5]",
+    ),
+    (
+        "modify ou=b,o=x|-ou=bb / select one (&(objectClass=organizationalUnit)(ou=B)) o=x / \
+         select one (&(objectClass=*)(ou=B)) o=x / select one (&(ou=b)(l=q)) o=x / \
+         select one (&(ou=a)(ou=b)) o=x / select one (|(ou=a)(ou=b)) o=x / \
+         select one (!(ou=a)) o=x",
+        "0 true [3] true [3] true [] true [] true [2, 3] true [3]",
+    ),
+    // A further value, for a while.
+    (
+        "modify ou=b,o=x|-ou=bb / modify ou=b,o=x|+ou=A / select one (ou=a) o=x / \
+         modify ou=b,o=x|-ou=a / select one (ou=a) o=x",
+        "0 0 true [2, 3] 0 true [2]",
+    ),
+    // An entry that has a name of another type, until it goes.
+    (
+        "modify ou=b,o=x|-ou=bb / rename ou=b,o=x|l=p|keep / select one (ou=b) o=x / \
+         modify l=p,o=x|+ou=A / select one (ou=a) o=x / delete l=p,o=x / \
+         select one (ou=a) o=x / select one (ou=b) o=x",
+        "0 0 true [3] 0 true [2, 3] 0 true [2] true []",
+    ),
+    // An RDN of two pairs.
+    (
+        "modify ou=b,o=x|-ou=bb / \
+         add ou=c+l=d,o=x|objectClass=organizationalUnit|ou=c|l=d / \
+         select one (ou=C) o=x / select one (l=d) o=x / select one (ou=a) o=x",
+        "0 0 true [9] true [9] true [2]",
+    ),
+    // A value that is spelled otherwise than in the name.
+    (
+        "modify ou=b,o=x|-ou=bb / modify ou=b,o=x|-ou|+ou=B / select one (ou=b) o=x / \
+         select one (ou=a) o=x",
+        "0 0 true [3] true [2]",
+    ),
+];
+
+#[test]
+fn equalities(rt: HostRuntime) -> Result<(), Fail> {
+    check_rows(&rt, rt.alloc(), &EQUALITIES)
+}
+
 #[test]
 fn effects(rt: HostRuntime) -> Result<(), Fail> {
     check_rows(&rt, rt.alloc(), &EFFECTS)?;

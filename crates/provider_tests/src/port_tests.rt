@@ -8,7 +8,8 @@ use ldap_ber::discard;
 use std::alloc::Global;
 use std::test::Fail;
 use sync_provider::{
-    Accepted, Handed, Kind, PlainSearch, Port, Provider, SearchChange, SearchEvent, SearchReply,
+    Accepted, HandOutStop, Handed, Kind, PlainSearch, Port, Provider, SearchChange, SearchEvent,
+    SearchReply,
 };
 
 /// What the calls answer: writes their code and number, a search how many entries were found,
@@ -53,6 +54,34 @@ fn overflow(
     hand_out(provider, 1, answers)?;
     hand_out(provider, 1, answers)?;
     push_journal(alloc, provider, events)
+}
+
+/// The same where messages are handed out together: how many, and why there are no more.
+const TOGETHER: &str = "0:1 s1@1 0enough 1enough 1nothing 0none 0:2 1nothing s2@2 2e0 0none";
+
+#[test]
+fn messages_come_together(rt: HostRuntime) -> Result<(), Fail> {
+    let alloc = rt.alloc();
+    let mut provider = fresh(alloc)?;
+    let mut answers = String::new(alloc);
+    let done = take_together(alloc, &mut provider, &mut answers);
+    discard(provider);
+    done?;
+    assert!(rt; answers.as_str() == TOGETHER, "{answers}");
+    Ok(())
+}
+
+fn take_together<P: Port>(alloc: Global, port: &mut P, text: &mut String) -> Result<(), Fail> {
+    write(alloc, port, "first", "", text)?;
+    open(alloc, port, "stay", text)?;
+    for (search, most) in [(1, 0), (1, 1), (1, 4), (2, 4)] {
+        together(alloc, port, search, most, text)?;
+    }
+    write(alloc, port, "add", "ou=a,dc=x", text)?;
+    together(alloc, port, 1, 4, text)?;
+    open(alloc, port, "once", text)?;
+    together(alloc, port, 2, 4, text)?;
+    together(alloc, port, 2, 4, text)
 }
 
 #[test]
@@ -170,6 +199,27 @@ fn hand_out<P: Port>(port: &mut P, search: u64, text: &mut String) -> Result<(),
     };
     discard(handed);
     Ok(push_word(text, word)?)
+}
+
+fn together<P: Port>(
+    alloc: Global,
+    port: &mut P,
+    search: u64,
+    most: usize,
+    text: &mut String,
+) -> Result<(), Fail> {
+    let given = port.hand_out_several(search, most, Vec::with_capacity(alloc, most)?);
+    let stop = match &given.stop {
+        HandOutStop::Enough => "enough",
+        HandOutStop::Ended(0, _) => "e0",
+        HandOutStop::Ended(_, _) => "e",
+        HandOutStop::Nothing => "nothing",
+        HandOutStop::NoSuchSearch => "none",
+        HandOutStop::NoMemory => "memory",
+    };
+    let count = given.messages.len();
+    discard(given);
+    Ok(push_word(text, &format!(in alloc; "{count}{stop}")?)?)
 }
 
 fn drop_search<P: Port>(port: &mut P, search: u64, text: &mut String) -> Result<(), Fail> {

@@ -6,7 +6,8 @@
 //! A write reports its code; `touch` also what it touches, and `count` alone how much; `preview` the
 //! code, whether the entries stay, and whether the write then answers the same. `find` reports which
 //! identity a name finds in the tree and in a copy, `name` whether the entry of an identity has a
-//! name, `get` a copy of that entry. `select` takes a scope, a type and a base.
+//! name, `get` a copy of that entry. `select` takes a scope, a type or a filter in parentheses, and a
+//! base.
 use crate::commit_tests::{commit, hold};
 use crate::rows::{number, parted, push_counted, push_word};
 use crate::tree_lines::{entries_of, push_difference, push_entry};
@@ -264,6 +265,14 @@ fn scope_of(word: &str) -> Scope {
     }
 }
 
+/// The filter that is written so, or that the type is there.
+fn filter_of(alloc: Global, word: &str) -> Result<Filter, Fail> {
+    if word.starts_with('(') {
+        return Ok(Filter::read_text(alloc, word.as_bytes())?);
+    }
+    Ok(Filter::Present(octets(alloc, word)?))
+}
+
 /// Reports whether the specification is the same as itself, and which entries it selects.
 fn select(alloc: Global, tree: &Tree, of: &str, text: &mut String) -> Result<(), Fail> {
     let (scope, rest) = parted(of);
@@ -271,7 +280,7 @@ fn select(alloc: Global, tree: &Tree, of: &str, text: &mut String) -> Result<(),
     let spec = Spec {
         base: Dn::parse(alloc, base.as_bytes())?,
         scope: scope_of(scope),
-        filter: Filter::Present(octets(alloc, kind)?),
+        filter: filter_of(alloc, kind)?,
     };
     let selected = selected(alloc, tree, &spec);
     discard(spec);

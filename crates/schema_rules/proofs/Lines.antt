@@ -13,6 +13,7 @@ all_lower : map (λ c. nat_le (height (superior_of c)) c) (range_with_len 0 10) 
 unfolding classes class_named
 all_lower = refl
 
+-- a class and its superiors are the class and the line of its superior
 pub line_of-superior : (n m : ℕ) → n ≡ m → n < 10 → line_of m ≡ m ∷ line_from (superior_of m)
 line_of-superior n m same known =
     let low : m < 10 = omega (arith, same, known) in
@@ -20,6 +21,7 @@ line_of-superior n m same known =
     ∙ ap (λ lines. get_or lines m []) all_lines
     ∙ get_or-map-range_with_len (λ c. c ∷ line_from (superior_of c)) 0 10 m m [] low (zero-add m)
 
+-- a superior stands before its class in the table
 pub superior_of-lower : (n m : ℕ) → n ≡ m → n < 10 → height (superior_of m) ≤ m
 superior_of-lower n m same known =
     let low : m < 10 = omega (arith, same, known) in

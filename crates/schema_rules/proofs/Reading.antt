@@ -43,6 +43,7 @@ joined_more raws i raw kind low at named =
 
 -- ---- what is known where nothing rejects an attribute
 
+-- a fault that has the first code of one list has that of another where this begins alike
 pub HasCode-same : (one two : Option ℕ) (fault : SchemaFault) → ((n : ℕ) → one ≡ Some n → two ≡ Some n) → HasCode one fault → HasCode two fault
 HasCode-same one two (Code n) same shown = same n shown
 HasCode-same one two NoMemory same shown = tt

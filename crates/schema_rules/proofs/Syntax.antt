@@ -20,8 +20,10 @@ is_ascii-from (b ∷ bs) ascii = and_from (nat_lt b 128) (is_ascii bs) (lt-ltb b
 pub key_by-class : (value : List ℕ) → is_some (class_named value) ≡ true → is_some (key_by Class value) ≡ true
 key_by-class value found = rw found refl
 
+-- a value in ASCII that has a key where case is ignored has one by the rule for ASCII
 pub key_by-folded_ascii : (value : List ℕ) → IsAscii value → is_some (ignore_case_key value) ≡ true → is_some (key_by FoldedAscii value) ≡ true
 key_by-folded_ascii value ascii has = rw (is_ascii-from value ascii) has
 
+-- so it has where case counts
 pub key_by-exact_ascii : (value : List ℕ) → IsAscii value → is_some (exact_key value) ≡ true → is_some (key_by ExactAscii value) ≡ true
 key_by-exact_ascii value ascii has = rw (is_ascii-from value ascii) has

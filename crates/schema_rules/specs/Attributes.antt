@@ -20,6 +20,10 @@ values_weight name values = sum_by (λ value. length name + length value) values
 abbrev pub weight_of : List Attribute → ℕ
 weight_of attributes = sum_by (λ a. values_weight (type_name a.kind) a.values) attributes
 
+-- some attribute is of the type
+abbrev pub has_kind : List Attribute → ℕ → Bool
+has_kind attributes kind = list_any (λ a. a.kind == kind) attributes
+
 -- the values of a type, those of all its attributes in order
 abbrev pub values_of : List Attribute → ℕ → List (List ℕ)
 values_of attributes kind = flat_map (λ a. a.values) (filter (λ a. a.kind == kind) attributes)
@@ -99,6 +103,10 @@ is_given a = not (is_operational a.kind) && list_all (is_of_syntax a.kind) a.val
 -- and no two of its values are equal
 abbrev pub is_sound : Attribute → Bool
 is_sound a = is_given a && not (repeats_value a)
+
+-- the attribute as it is sent: the name of its type, and its values
+abbrev pub raw_of : Attribute → RawAttribute
+raw_of a = record { name = type_name a.kind; values = a.values }
 
 -- ---- the check of an entry (RFC 4512, section 2.4)
 

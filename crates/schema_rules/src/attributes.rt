@@ -1,5 +1,5 @@
 //! Lists of attributes (RFC 4512, section 2.2).
-ghost use Rattle.std.specs.Prelude.{◌≡◌, ◌-◌, ◌^◌, ◌==◌, true, [], ◌++◌, min, position, Ok, None, Some, IfOk, IfErr, OnOk, OnErr};
+ghost use Rattle.std.specs.Prelude.{◌≡◌, ◌-◌, ◌^◌, ◌==◌, true, [], min, position, Ok, None, Some, IfOk, IfErr, OnOk, OnErr};
 ghost use Rattle.std.specs.List.{AllPass, filter_map, list_any, list_all};
 ghost use Rattle.std.specs.Result.{result_err};
 ghost use Rattle.schema_rules.specs.Attributes as spec;
@@ -203,6 +203,13 @@ fn checked_type(alloc: Global, raw: &RawAttribute) -> Result<AttributeType, Sche
     Ok(kind)
 }
 
+/// Whether some attribute is of the type.
+pub fn has_kind(attributes: &[Attribute], kind: AttributeType) -> bool
+    ensures { result ≡ spec.has_kind attributes.now kind }
+{
+    attributes.iter().any(|attribute| attribute.kind == kind)
+}
+
 /// Puts values of a type, which it takes over, after its other values, or after all attributes.
 /// After an `Err` the list is as before. It is `NoMemory` where memory runs out.
 pub fn add_values(
@@ -236,7 +243,8 @@ fn repeats_value(alloc: Global, attribute: &Attribute) -> Result<bool, NoMemory>
     has_equal_values(alloc, attribute.kind, attribute.values.list())
 }
 
-/// Whether two of the values have one key. A value alone needs none.
+/// Whether two of the values have one key. A value alone needs none. It is `NoMemory` where memory
+/// runs out.
 pub fn has_equal_values(
     alloc: Global,
     kind: AttributeType,

@@ -11,7 +11,7 @@ mod raw;
 mod types;
 mod weighed;
 
-pub use attributes::{Attribute, Attrs, add_values, has_duplicates, has_equal_values};
+pub use attributes::{Attribute, Attrs, add_values, has_duplicates, has_equal_values, has_kind};
 pub use entry_check::check_entry;
 pub use fault::SchemaFault;
 pub use keys::{are_of_syntax, key_of, keys_of, known_key};

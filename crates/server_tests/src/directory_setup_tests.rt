@@ -3,7 +3,7 @@
 
 use crate::ldap_server_tests::provider;
 use directory_setup::{
-    FileText, Filling, LineCause, ReadyDirectory, Refusal, Setup, fill, read_file, set_up,
+    FileText, Filling, LineCause, ReadyDirectory, Setup, SetupRefusal, fill, read_file, set_up,
 };
 use dn_names::Dn;
 use ldap_ber::{NoMemory, Octets, discard};
@@ -36,7 +36,7 @@ ou: a
 /// A configuration whose entries stand in a file.
 const WITH_FILE: &str = "listen = 'here:389'\nsuffix = 'dc=x'\nldif = 'entries'\n";
 
-const SETUPS: [Row; 17] = [
+const SETUPS: [Row; 19] = [
     (
         &[("serve", "listen = 'here:389'\nsuffix = 'dc=x'\n")],
         2,
@@ -59,6 +59,20 @@ const SETUPS: [Row; 17] = [
         &[("serve", WITH_FILE), ("entries", "# no record\n")],
         2,
         "here:389 free, 16 seats, 0 connections, 0 writes",
+    ),
+    (
+        &[(
+            "serve",
+            "listen = 'here:389'\n[upstream]\naddress = 'there:389'\nbase = 'dc=x'\n\
+             scope = 'sub'\nfilter = '(ou=*)'\nrounds = 3\n",
+        )],
+        2,
+        "here:389 free, 16 seats, 0 connections, 0 writes, follows there:389, 3 rounds",
+    ),
+    (
+        &[("serve", "listen = 'here:389'\n")],
+        2,
+        "config MissingKey suffix",
     ),
     (&[], 2, "read fault"),
     (&[("serve", WITH_FILE)], 2, "read fault"),
@@ -173,15 +187,29 @@ fn utf8(bytes: &[u8]) -> &str {
     str::from_utf8(bytes).unwrap_or("no text")
 }
 
+/// The directory that a directory follows, where there is one.
+fn followed_text(alloc: Global, ready: &ReadyDirectory) -> Result<String, NoMemory> {
+    match &ready.upstream {
+        Some(upstream) => format!(in alloc;
+            ", follows {}, {} rounds",
+            upstream.address.as_str(),
+            ready.rounds
+        ),
+        None => String::from_str(alloc, ""),
+    }
+}
+
 fn ready_text(alloc: Global, ready: &ReadyDirectory) -> Result<String, NoMemory> {
     let access = access_text(alloc, &ready.access)?;
+    let followed = followed_text(alloc, ready)?;
     format!(in alloc;
-        "{} {}, {} seats, {} connections, {} writes",
+        "{} {}, {} seats, {} connections, {} writes{}",
         ready.listen.as_str(),
         access.as_str(),
         ready.seats,
         ready.connections,
-        ready.provider.writes()
+        ready.provider.writes(),
+        followed.as_str()
     )
 }
 
@@ -198,8 +226,8 @@ fn config_text(alloc: Global, fault: &ConfigFault) -> Result<String, NoMemory> {
 fn shown(alloc: Global, setup: &Setup) -> Result<String, NoMemory> {
     match setup {
         Setup::Ready(ready) => ready_text(alloc, ready),
-        Setup::Refused(Refusal::InConfig(fault)) => config_text(alloc, fault),
-        Setup::Refused(Refusal::AtLine(line, cause)) => {
+        Setup::Refused(SetupRefusal::InConfig(fault)) => config_text(alloc, fault),
+        Setup::Refused(SetupRefusal::AtLine(line, cause)) => {
             format!(in alloc; "line {line} {cause:?}")
         }
         Setup::ReadFault => String::from_str(alloc, "read fault"),

@@ -56,6 +56,7 @@ IsLogOf-noted all log number uuid h =
 pub IsLogOf-trimmed : (all : List Note) (log : Log) (limit : ℕ) → IsLogOf all log → IsLogOf all (trimmed limit log)
 IsLogOf-trimmed all log limit h = IsLogOf-limited all h.dropped log.notes limit log.floor h.split h.floor
 
+-- after some calls it is the log of all notes so far
 pub IsLogOf-calls : (calls : List LogCall) (all : List Note) (log : Log) → IsLogOf all log
     → IsLogOf (all ++ notes_of calls) (after_calls log calls)
 IsLogOf-calls [] all log h = record { dropped = h.dropped; split = h.split ∙ sym (append-nil all); floor = h.floor }

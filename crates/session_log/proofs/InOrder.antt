@@ -10,6 +10,7 @@ use Rattle.session_log.specs.Log.{last_of, uuids_after, NumbersRise}
 
 -- ---- what is in order
 
+-- no notes are in order
 pub in_order-none : (notes : List Note) → notes ≡ [] → NumbersRise notes
 in_order-none notes none =
     IsNonDecreasingBy-short (λ (note : Note). note.number) notes (omega (arith, ap (length {A = Note}) none))
@@ -44,6 +45,7 @@ in_order-prefix prefix back notes is rise =
     subst NumbersRise (take_at prefix back (length prefix) refl)
     (IsNonDecreasingBy-take (λ (note : Note). note.number) (length prefix) (prefix ++ back) (subst NumbersRise (sym is) rise))
 
+-- the last notes of a list in order are in order
 pub in_order-back : (prefix back notes : List Note) → prefix ++ back ≡ notes → NumbersRise notes → NumbersRise back
 in_order-back prefix back notes is rise =
     subst NumbersRise (drop_at prefix back (length prefix) refl)

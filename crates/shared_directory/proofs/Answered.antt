@@ -136,6 +136,8 @@ module _ (number : ℕ) (d : NumberedState) (is : IsNumbered d) (v : JournalledP
     wrote_or_same (Ok w) is_new = wrote_moves number d is v numbers openers w is_new (one_more w is_new) ops
     wrote_or_same (Err code) is_new = same_moves number d is v numbers openers is_new (none_more is_new) ops
 
+    -- a write is answered as is due at the port that called, and a number more is kept exactly
+    -- where it was accepted
     pub write_answered : (op : Op) (now : ℕ) (reply : Reply) → WriteReplies old op now reply new
         → KeepsNumbers number d after (λ p q. WriteReplies p op now reply q)
     write_answered op now reply clause = by (nat_eq reply.code OTHER) refl
@@ -177,6 +179,7 @@ module _ (number : ℕ) (d : NumberedState) (is : IsNumbered d) (v : JournalledP
               own = λ ports. moves.own ports ∙ sym (ap (wrote_in (port_in number ports d)) is_r);
             }
 
+    -- the same of a commit
     pub commit_answered : (puts : List Entry) (drops : List ℕ) (now : ℕ) (result : Result ℕ CommitFault) → CommitReplies old puts drops now result new
         → KeepsNumbers number d after (λ p q. CommitReplies p puts drops now result q)
     commit_answered puts drops now (Ok count) clause =
@@ -229,6 +232,7 @@ module _ (number : ℕ) (d : NumberedState) (is : IsNumbered d) (v : JournalledP
     free : free_in old.journal ≡ Some n
     free = was_free old.directory n ask (free_in old.journal) (request_of ask.control) (ap opened_number clause.answer)
 
+    -- the number of a search that was opened is less than 65
     pub opened_low : n < 65
     opened_low = find_low (λ m. not (is_open old.journal m)) 1 64 n free
 
@@ -239,6 +243,8 @@ module _ (number : ℕ) (d : NumberedState) (is : IsNumbered d) (v : JournalledP
         by true h = absurd (false≢true h)
         by false h = refl
 
+    -- an opened search is answered as is due, and has the number of this port at its place among
+    -- those who opened the last search under each number
     pub accept_opened : numbers ≡ d.numbers ++ number ∷ [] → openers ≡ set d.openers n number
         → KeepsNumbers number d after (λ p q. AcceptReplies p ask (accepted.Opened n writes) q)
     accept_opened nums ops =
@@ -265,6 +271,7 @@ module _ (number : ℕ) (d : NumberedState) (is : IsNumbered d) (v : JournalledP
     turned (Some f) (Some Waits) found is_new = same_moves number d is v numbers openers is_new nums ops
     turned (Some f) (Some Unknown) found is_new = same_moves number d is v numbers openers is_new nums ops
 
+    -- a hand-out to this port of a search that it opened is the reply that is due there
     pub hand_out_answered : (result : Handed) → HandOutReplies old k result new
         → KeepsNumbers number d after (λ p q. HandOutReplies p k result q)
     hand_out_answered result clause =
@@ -280,6 +287,7 @@ module _ (number : ℕ) (d : NumberedState) (is : IsNumbered d) (v : JournalledP
     dropped None found is_new = same_moves number d is v numbers openers is_new nums ops
     dropped (Some f) found is_new = ended_moves number d is v numbers openers k (end_of k f.handed f) is_new refl opener nums ops
 
+    -- so is the dropping of a search that this port opened
     pub drop_answered : (result : Bool) → DropReplies old k result new → KeepsNumbers number d after (λ p q. DropReplies p k result q)
     drop_answered result clause =
         answered (λ p. dropped_in p k (old.followed k)) (λ p q. DropReplies p k result q)
@@ -367,6 +375,7 @@ module _ (number : ℕ) (d : NumberedState) where
     not_followed : (ports : ℕ) → (port_in number ports d).followed k ≡ None
     not_followed ports = ap (λ b. cond b (followed_in d.provider k) None) (ne_eqb (slice_index d.openers k) number other)
 
+    -- a search that is not this port's is none for it: nothing is handed out, and nothing changes
     pub hand_out_unknown : IsAnswered number d d (λ p q. HandOutReplies p k handed.NoSuchSearch q)
     hand_out_unknown = unchanged (λ p q. HandOutReplies p k handed.NoSuchSearch q) (λ ports. record {
       turn = sym (ap (turn_in d.provider.state.directory) (not_followed ports));
@@ -374,6 +383,7 @@ module _ (number : ℕ) (d : NumberedState) where
       state = sym (ap (λ f. after_turn_in (port_in number ports d) k f (Some Unknown)) (not_followed ports));
     })
 
+    -- the same where such a search is to be dropped
     pub drop_unknown : IsAnswered number d d (λ p q. DropReplies p k false q)
     drop_unknown = unchanged (λ p q. DropReplies p k false q) (λ ports. record {
       was_open = sym (ap is_some (not_followed ports));

@@ -48,6 +48,8 @@ module _ (v : JournalledProvider) where
   none_later : drop (length j) j ≡ []
   none_later = drop_all (length j) j all_of
 
+  -- a provider with its journal, to which no port has called yet, has the numbers that it needs:
+  -- none
   pub first_numbered : IsJournalled v → IsNumbered (first_state v)
   first_numbered is = record {
     first = all_of;
@@ -70,6 +72,7 @@ module _ (v : JournalledProvider) where
         openers = replicate 65 0;
       }
 
+  -- the same of a journal that was counted, and an empty list of numbers
   pub counted_numbered : (n : ℕ) (numbers : List ℕ) → n ≡ length (journal_of v.state.directory.writes v.events) → numbers ≡ [] → IsJournalled v
       → IsNumbered (record { provider = v; first = n; numbers = numbers; openers = replicate 65 0 })
   counted_numbered n numbers counted none is = subst IsNumbered (sym (first_is n numbers counted none)) (first_numbered is)
@@ -79,6 +82,7 @@ module _ (v : JournalledProvider) where
   first_journal =
       (λ i. take_all (length j) j all_of i ++ numbered_with no_openers (none_later i) []) ∙ append-nil j
 
+  -- each port of such a directory knows the provider as it is, and follows no search
   pub first_in : (number ports : ℕ) → 1 ≤ number → port_in number ports (first_state v) ≡ first_port number ports v
   first_in number ports low = λ i. record {
     number = number;
@@ -99,10 +103,12 @@ module _ (v : JournalledProvider) where
   every_zero [] = tt
   every_zero (note ∷ notes) = (refl, every_zero notes)
 
+  -- no entry of the journal is by a port yet
   pub none_by_ports : Every (λ (e : JournalNote × ℕ). e.1 ≡ 0) (port_journal (first_state v))
   none_by_ports = subst (Every (λ (e : JournalNote × ℕ). e.1 ≡ 0)) (sym first_journal) (every_zero (journal_of v.state.directory.writes v.events))
 
   module _ (seats : ℕ) where
+    -- since it was made nothing has come to any pass
     pub first_come : HaveCome (first_held v seats)
     first_come number old left =
         subst (λ o. HasCome number o (first_state v)) (got-replicate (seats + 1) number (first_state v) old left)
@@ -116,6 +122,7 @@ module _ (v : JournalledProvider) where
       last = (left ∙ (λ k. replicate (count k) (is k))) i;
     }
 
+    -- the same of a state with n copies of the directory
     pub held_come : (n : ℕ) (now : NumberedState) (last : List NumberedState) → now ≡ first_state v → last ≡ replicate n now → n ≡ seats + 1
         → HaveCome (record { now = now; last = last })
     held_come n now last is left count = subst HaveCome (sym (held_first n now last is left count)) first_come
@@ -123,6 +130,7 @@ module _ (v : JournalledProvider) where
     left_first : (number : ℕ) → number ≤ seats → left_by (first_held v seats) number ≡ first_state v ∷ []
     left_first number low = ap listed (get-replicate (seats + 1) number (first_state v) (omega (arith, low)))
 
+    -- passes that are new, from some number on, are those of a directory as it is made
     pub are_first : {g : _} (cell : TableId) (passes : List (Pass HeldState JournalNote NumberedState g)) (first : ℕ)
         → 1 ≤ first → first + length passes ≡ suc seats
         → AreNew cell seats (entries_of (first_held v seats)) (left_by (first_held v seats)) first passes
@@ -142,6 +150,7 @@ module _ (v : JournalledProvider) where
       pub none_before : Every (λ (e : JournalNote × ℕ). e.1 ≡ 0) (entries_of held)
       none_before = subst (λ h. Every (λ (e : JournalNote × ℕ). e.1 ≡ 0) (entries_of h)) (sym is) none_by_ports
 
+      -- so are all of them
       pub passes_first : {g : _} (cell : TableId) (passes : List (Pass HeldState JournalNote NumberedState g)) → length passes ≡ seats
           → AreNew cell seats (entries_of held) (left_by held) 1 passes → AreFirst cell seats v 1 passes
       passes_first cell passes count new =

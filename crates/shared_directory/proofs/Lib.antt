@@ -6,3 +6,5 @@ pub mod Turns
 pub mod Passing
 pub mod First
 pub mod Sent
+pub mod Together
+pub mod Meeting

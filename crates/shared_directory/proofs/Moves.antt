@@ -106,6 +106,7 @@ module _ (number : ℕ) (d : NumberedState) (is : IsNumbered d) (v : JournalledP
       followed = λ n. followed n ∙ is.followed n ∙ sym (ap (λ j. is_open j n) journal);
     }
 
+  -- where nothing changes, the port that called knows what it knew
   pub same_moves : new ≡ old → numbers ≡ d.numbers → openers ≡ d.openers → Moves number d after (λ p. p)
   same_moves same nums ops = record {
     numbered = same_numbered (ap (λ p. p.journal) same) nums ops (λ n. ap (λ p. is_some (p.followed n)) same);
@@ -225,6 +226,7 @@ module _ (number : ℕ) (d : NumberedState) (is : IsNumbered d) (v : JournalledP
         (λ n. ap (λ os. cond (nat_eq (slice_index os n) m) (option_map after_write (old.followed n)) None) ops
         ∙ cond_map after_write (nat_eq (slice_index d.openers n) m) (old.followed n))
 
+    -- an accepted write is noted at the port that called
     pub wrote_moves : Moves number d after (λ p. noted p (Wrote w) p.number)
     wrote_moves = record {
       numbered = record {
@@ -282,6 +284,7 @@ module _ (number : ℕ) (d : NumberedState) (is : IsNumbered d) (v : JournalledP
             ap (λ x. cond (nat_eq (slice_index d.openers o.number) m) x None) not_followed
             ∙ cond_none (nat_eq (slice_index d.openers o.number) m)
 
+    -- a search that was opened is followed by the port that called
     pub opened_moves : Moves number d after (λ p. opened_in p o)
     opened_moves = record {
       numbered = record {
@@ -338,6 +341,7 @@ module _ (number : ℕ) (d : NumberedState) (is : IsNumbered d) (v : JournalledP
         by true here = sym (ap (λ m. is_some (old.followed m)) (eqb-true n k here) ∙ ap is_some found)
         by false far = refl
 
+    -- a message that was handed out counts at the port that called
     pub handed_moves : Moves number d after (λ p. handed_in p k f)
     handed_moves = record {
       numbered = same_numbered handed_journal nums ops handed_some;
@@ -382,6 +386,7 @@ module _ (number : ℕ) (d : NumberedState) (is : IsNumbered d) (v : JournalledP
         changed_elsewhere k None (old.journal ++ (Closed end, 0) ∷ []) (port_journal d ++ (Closed end, number) ∷ []) is_new port_ended
         (ap (λ os. slice_index os k) ops ∙ opener) (λ n apart. ap (λ os. slice_index os n) ops) m differs (followed_here k opener m differs)
 
+    -- a search that ended is followed no more
     pub ended_moves : Moves number d after (λ p. ended_in p k end)
     ended_moves = record {
       numbered = record {

@@ -12,6 +12,8 @@ numbers_left (e ∷ journal) numbers = numbers_left journal (numbers_after e.0 n
 
 -- ---- an entry more
 
+-- an entry at the end of a journal gets the number that is left for it, and those before it keep
+-- theirs
 pub numbered-entry : (openers : Openers) (journal : Journal) (e : JournalNote × ℕ) (numbers : List ℕ)
     → numbered_with openers (journal ++ e ∷ []) numbers
     ≡ numbered_with openers journal numbers
@@ -21,6 +23,7 @@ numbered-entry openers (x ∷ journal) e numbers =
     ap (λ rest. (x.0, port_of_note openers x.0 numbers) ∷ rest)
     (numbered-entry (openers_after openers x.0 (port_of_note openers x.0 numbers)) journal e (numbers_after x.0 numbers))
 
+-- after it, who opened the last search under each number is as that entry leaves it
 pub openers-entry : (openers : Openers) (journal : Journal) (e : JournalNote × ℕ) (numbers : List ℕ)
     → openers_of openers (journal ++ e ∷ []) numbers
     ≡ openers_after (openers_of openers journal numbers) e.0
@@ -29,6 +32,7 @@ openers-entry openers [] e numbers = refl
 openers-entry openers (x ∷ journal) e numbers =
     openers-entry (openers_after openers x.0 (port_of_note openers x.0 numbers)) journal e (numbers_after x.0 numbers)
 
+-- one number more is wanted where the entry has one kept
 pub count-entry : (journal : Journal) (e : JournalNote × ℕ) → kept_count (journal ++ e ∷ []) ≡ kept_count journal + kept_of e.0
 count-entry [] e = omega arith
 count-entry (x ∷ journal) e = let rest = count-entry journal e in omega (arith, rest)
@@ -36,6 +40,7 @@ count-entry (x ∷ journal) e = let rest = count-entry journal e in omega (arith
 -- ---- a number more
 
 module _ (number : ℕ) where
+  -- a number at the end, for which there is no entry yet, changes the number of no entry
   pub numbered-number : (openers : Openers) (journal : Journal) (numbers : List ℕ) → kept_count journal ≡ length numbers
       → numbered_with openers journal (numbers ++ number ∷ []) ≡ numbered_with openers journal numbers
   numbered-number openers [] numbers kept = refl
@@ -49,6 +54,7 @@ module _ (number : ℕ) where
   numbered-number openers ((Closed end, was) ∷ journal) numbers kept =
       ap (λ rest. (Closed end, openers end.number) ∷ rest) (numbered-number openers journal numbers (omega (arith, kept)))
 
+  -- nor who opened which search
   pub openers-number : (openers : Openers) (journal : Journal) (numbers : List ℕ) → kept_count journal ≡ length numbers
       → openers_of openers journal (numbers ++ number ∷ []) ≡ openers_of openers journal numbers
   openers-number openers [] numbers kept = refl
@@ -82,12 +88,14 @@ module _ (note : JournalNote) (was number : ℕ) (openers : Openers) (journal : 
       takes (openers_of openers journal (numbers ++ number ∷ [])) (numbers_left journal (numbers ++ number ∷ []))
       ∙ ap first_number (number-left number journal numbers kept)
 
+  -- an entry that comes together with its number has that number
   pub numbered-kept : numbered_with openers (journal ++ (note, was) ∷ []) (numbers ++ number ∷ [])
       ≡ numbered_with openers journal numbers ++ (note, number) ∷ []
   numbered-kept =
       numbered-entry openers journal (note, was) (numbers ++ number ∷ [])
       ∙ (λ i. numbered-number number openers journal numbers kept i ++ (note, its i) ∷ [])
 
+  -- and who opened which search is as that entry leaves it
   pub openers-kept : openers_of openers (journal ++ (note, was) ∷ []) (numbers ++ number ∷ [])
       ≡ openers_after (openers_of openers journal numbers) note number
   openers-kept =
@@ -112,6 +120,7 @@ abbrev pub open_by : ℕ → Bool → List JournalNote → Bool
 open_by number was [] = was
 open_by number was (note ∷ notes) = open_by number (open_after number was note) notes
 
+-- which searches of a port are open depends on the notes of the journal alone
 pub open_by_notes : (number : ℕ) (was : Bool) (journal : Journal) → open_from number was journal ≡ open_by number was (notes_in journal)
 open_by_notes number was [] = refl
 open_by_notes number was (e ∷ journal) = open_by_notes number (open_after number was e.0) journal

@@ -16,6 +16,7 @@ at-each P [] every k x low = absurd (omega (arith, low))
 at-each P (y ∷ ys) every zero x low = every.0
 at-each P (y ∷ ys) every (suc k) x low = at-each P ys every.1 k x (omega (arith, low))
 
+-- what holds of each image under a function holds of each element of the mapped list
 pub every-mapped : {X Y : Type 0} (P : Y → Type 0) (f : X → Y) (xs : List X) → Every (λ x. P (f x)) xs → Every P (map f xs)
 every-mapped P f [] every = tt
 every-mapped P f (x ∷ xs) every = (every.0, every-mapped P f xs every.1)
@@ -61,6 +62,7 @@ module _ (view : DirectoryView) (found : HeldState) (continues : Continues (entr
     port_after : port_of after ≡ port_in view.number view.seats value.now
     port_after = λ i. port_left (number i) (seats i) ((share ∙ turn.left) i)
 
+    -- what is due at the port of a pass, after what others added, is a reply of that port
     pub replied : IsReplied (port_of view) (λ p. Replies p (port_of after))
     replied =
         let left = the_last view.share view.seen up_to_date in

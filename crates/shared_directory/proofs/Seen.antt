@@ -44,12 +44,14 @@ module _ (number : ℕ) (d model : NumberedState) (seen : d ≡ model) where
       one_kept : length d.provider.state.directory.writes < length v.state.directory.writes → numbers ≡ d.numbers ++ number ∷ []
       one_kept high = more (omega (arith, high, counted_before, counted)) ∙ ap (λ ns. ns ++ number ∷ []) had
 
+      -- what a provider replies to a write is due at the port, as contracts see both
       pub write_seen : (op : Op) (now : ℕ) (reply : Reply) → WriteReplies (port_state d.provider) op now reply (port_state v)
           → KeepsNumbers number model (record { provider = v; first = d.first; numbers = numbers; openers = d.openers }) (λ p q. WriteReplies p op now reply q)
       write_seen op now reply clause =
           as_seen (record { provider = v; first = d.first; numbers = numbers; openers = d.openers }) (λ p q. WriteReplies p op now reply q)
           (write_answered number d is v numbers d.openers none_kept one_kept refl op now reply clause)
 
+      -- the same of a commit
       pub commit_seen : (puts : List Entry) (drops : List ℕ) (now : ℕ) (result : Result ℕ CommitFault)
           → CommitReplies (port_state d.provider) puts drops now result (port_state v)
           → KeepsNumbers number model (record { provider = v; first = d.first; numbers = numbers; openers = d.openers })
@@ -86,12 +88,14 @@ module _ (number : ℕ) (d model : NumberedState) (seen : d ≡ model) where
       opened_by : slice_index d.openers k ≡ number
       opened_by = ap (λ o. slice_index o.openers k) seen ∙ sym read ∙ own
 
+      -- the same of a hand-out
       pub hand_out_seen : (result : Handed) → HandOutReplies (port_state d.provider) k result (port_state v)
           → KeepsNumbers number model (record { provider = v; first = d.first; numbers = d.numbers; openers = d.openers }) (λ p q. HandOutReplies p k result q)
       hand_out_seen result clause =
           as_seen (record { provider = v; first = d.first; numbers = d.numbers; openers = d.openers }) (λ p q. HandOutReplies p k result q)
           (hand_out_answered number d is v d.numbers d.openers k opened_by refl refl result clause)
 
+      -- the same of a search that is dropped
       pub drop_seen : (result : Bool) → DropReplies (port_state d.provider) k result (port_state v)
           → KeepsNumbers number model (record { provider = v; first = d.first; numbers = d.numbers; openers = d.openers }) (λ p q. DropReplies p k result q)
       drop_seen result clause =

@@ -24,7 +24,7 @@ use Rattle.session_log.proofs.log.SessionLog.TheSendSync as logs
 use Rattle.persist_queues.proofs.queue.SearchQueue.TheSendSync as queues
 use Rattle.persist_queues.specs.contracts.queue.SearchQueue as SearchQueue
 use Rattle.shared_map.proofs.nodes.Nodes.TheLaws.TheKnot as nodes
-use Rattle.shared_map.proofs.nodes.Pair.TheSendSync as pairs
+use Rattle.shared_map.proofs.nodes.MapPair.TheSendSync as pairs
 use Rattle.shared_map.specs.contracts.nodes.Nodes as Nodes
 use Rattle.shared_map.specs.contracts.ordered.SharedMap as SharedMap
 use Rattle.dn_names.proofs.dn.Dn.TheSendSync as names
@@ -33,11 +33,13 @@ use Rattle.ldap_filter.proofs.filter.Pieces.TheSendSync as pieces
 use Rattle.ldap_filter.specs.contracts.filter.Filter as Filter
 use Rattle.entry_writes.proofs.entry.Entry.TheSendSync as entries
 use Rattle.entry_writes.proofs.op.Write.TheSendSync as writes
+use Rattle.entry_writes.proofs.touched.Touched.TheSendSync as changes
 use Rattle.entry_tree.proofs.spec.Scope.TheSendSync as scopes
 use Rattle.entry_tree.specs.contracts.spec.Spec as Spec
 use Rattle.entry_tree.specs.contracts.tree.Tree as Tree
 use Rattle.directory_writes.proofs.start.Start.TheSendSync as starts
 use Rattle.directory_writes.specs.contracts.directory.Directory as Directory
+use Rattle.directory_writes.specs.contracts.previous.Previous as Previous
 use Rattle.directory_writes.specs.contracts.standing.Standing as Standing
 use Rattle.sync_provider.proofs.journal_note.ClosedSearch.TheSendSync as ends
 use Rattle.sync_provider.proofs.pending_refresh.PendingRefresh.TheSendSync as refreshes
@@ -66,7 +68,8 @@ module _ (K V : RattleType) (sk : IsSend K) (yk : IsSync K) (sv : IsSend V) (yv 
   nodes_send : IsSend (Nodes.the_field K V).row
   nodes_send = search (nodes.both_send-Nodes, pairs.the_field_send, pairs.the_field_sync, Arc-send, Arc-sync, sendable) depth 20
 
-  map_send : (o : ord.Ghosts K.Denot) (e : eq.Ghosts K.Denot) (p : partial.Ghosts K.Denot) → IsSend (SharedMap.the_row K V o e p)
+  -- a map may go to another thread, where its keys and values may, and threads may share them
+  pub map_send : (o : ord.Ghosts K.Denot) (e : eq.Ghosts K.Denot) (p : partial.Ghosts K.Denot) → IsSend (SharedMap.the_row K V o e p)
   map_send o e p = search (nodes_send, sendable) depth 20
 
 -- ---- the entries of a directory
@@ -74,8 +77,14 @@ module _ (K V : RattleType) (sk : IsSend K) (yk : IsSync K) (sv : IsSend V) (yv 
 tree_send : IsSend Tree.the_row
 tree_send = search (map_send, entries.the_send, entries.the_sync, Vec-send, Vec-sync, sendable) depth 20
 
+previous_send : IsSend Previous.the_row
+previous_send = search (tree_send, changes.the_send, sendable) depth 20
+
+previous_kept_send : IsSend (Option.the_field Previous.the_row).row
+previous_kept_send = option.the_field_send Previous.the_row previous_send
+
 standing_send : IsSend Standing.the_row
-standing_send = search (tree_send, map_send, makers.the_send, sendable) depth 20
+standing_send = search (tree_send, map_send, makers.the_send, previous_kept_send, crosses, sendable) depth 20 fits 5000
 
 directory_send : IsSend Directory.the_row
 directory_send = search (standing_send, logs.the_send, names.the_send, writes.the_send, Vec-send, sendable) depth 20
@@ -88,13 +97,15 @@ filter_send = search (filters.send-Filter, octets.the_send, pieces.the_field_sen
 filter_sync : IsSync (Filter.the_field).row
 filter_sync = search (filters.sync-Filter, octets.the_sync, pieces.the_field_sync, Box-sync, Vec-sync) depth 20
 
-spec_field_send : IsSend (Spec.the_field).row
+-- what a search asks for may go to another thread with what holds it
+pub spec_field_send : IsSend (Spec.the_field).row
 spec_field_send = search (filter_send, names.the_send, scopes.the_field_send, sendable) depth 20
 
 spec_send : IsSend Spec.the_row
 spec_send = search (filter_send, names.the_send, scopes.the_field_send, sendable) depth 20
 
-spec_sync : IsSync Spec.the_row
+-- threads may share what a search asks for
+pub spec_sync : IsSync Spec.the_row
 spec_sync = search (filter_sync, names.the_sync, scopes.the_field_sync, sendable) depth 20
 
 -- ---- the journal

@@ -7,7 +7,8 @@ use Rattle.turn_cell.specs.Rule.{Grows}
 use Rattle.sync_provider.specs.Ports.{Journal, PortState, noted, noted_all}
 use Rattle.shared_directory.specs.Desks.{NumberedState, HeldState, port_journal, port_in, IsAnswered, HasCome, HaveCome, IsTurnOf, entries_of, left_by, listed}
 
-noted_all-append : (p : PortState) (xs ys : Journal) → noted_all p (xs ++ ys) ≡ noted_all (noted_all p xs) ys
+-- some entries, and then others
+pub noted_all-append : (p : PortState) (xs ys : Journal) → noted_all p (xs ++ ys) ≡ noted_all (noted_all p xs) ys
 noted_all-append p [] ys = refl
 noted_all-append p (x ∷ xs) ys = noted_all-append (noted p x.0 x.1) xs ys
 
@@ -26,6 +27,7 @@ module _ {X : Type 0} where
   get-set-other (x ∷ xs) (suc i) zero y differs = refl
   get-set-other (x ∷ xs) (suc i) (suc j) y differs = get-set-other xs i j y (λ same. differs (ap suc same))
 
+  -- where what there is makes a list of one element, it is that element
   pub listed-one : (o : Option X) (x : X) → listed o ≡ x ∷ [] → o ≡ Some x
   listed-one None x is = absurd (nil-cons is)
     where
@@ -73,6 +75,7 @@ module _ (number : ℕ) (old : HeldState) (now : NumberedState) (last : List Num
         ∙ sym (noted_all-append (port_in other ports was) come.entries answered.called.added);
   }
 
+  -- after a turn, what came since each pass's last one is what others added
   pub turn_kept : HaveCome old → HaveCome new
   turn_kept come other was left = by (nat_eq other number) refl
     where
@@ -85,6 +88,8 @@ module _ (number : ℕ) (old : HeldState) (now : NumberedState) (last : List Num
           let differs : other ≢ number = eqb-false other number far in
           come_on other was differs (come other was (sym (other_last other differs) ∙ left))
 
+  -- a turn has put entries of its own number alone at the end of the journal, and left the shares
+  -- of others
   pub turn_grows : Grows entries_of left_by number old new
   turn_grows = record {
     added = answered.called.added;
@@ -93,6 +98,7 @@ module _ (number : ℕ) (old : HeldState) (now : NumberedState) (last : List Num
     others = λ other differs. ap listed (other_last other differs);
   }
 
+  -- so it is a turn of its port, whose replies are those due at its place
   pub turn_is : HaveCome old → IsTurnOf number old new Replies
   turn_is come = record {
     left = ap listed own_last;

@@ -1,17 +1,20 @@
 //! What a port asks for in one turn.
 
-ghost use Rattle.std.specs.Prelude.{◌≡◌, true, false};
+ghost use Rattle.std.specs.Prelude.{◌≡◌, ◌≤◌, [], true, false, vec_capacity};
 ghost use Rattle.std.specs.List.{list_all};
 ghost use Rattle.entry_tree.specs.Fitting.{is_within_entry_limit};
 ghost use Rattle.entry_tree.specs.Sound.{is_commit, is_sound_op, is_sound_put};
-ghost use Rattle.sync_provider.specs.Ports.{PortState, WriteReplies, CommitReplies, SearchReplies, CompareReplies, AcceptReplies, HandOutReplies, DropReplies, WritesReplies};
+ghost use Rattle.sync_provider.specs.Ports.{PortState, WriteReplies, CommitReplies, SearchReplies, CompareReplies, AcceptReplies, HandOutReplies, SeveralReplies, DropReplies, WritesReplies};
 ghost use Rattle.shared_directory.specs.Desks.{IsAnswered};
 
 use crate::numbered::NumberedProvider;
 use dn_names::Dn;
 use entry_tree::{EntryList, Op};
+use ldap_messages::Message;
 use sync_messages::IdList;
-use sync_provider::{Accepted, CommitFault, Handed, PlainSearch, Reply, SearchReply, SyncSearch};
+use sync_provider::{
+    Accepted, CommitFault, Handed, HandedMessages, PlainSearch, Reply, SearchReply, SyncSearch,
+};
 
 /// A call of a port.
 pub(crate) trait Call {
@@ -131,6 +134,26 @@ impl Call for HandOutCall {
     }
 }
 
+/// Hands out the next messages of the search with this number, into the room.
+pub(crate) struct HandOutSeveralCall {
+    pub(crate) search: u64,
+    pub(crate) most: usize,
+    pub(crate) room: Vec<Message>,
+    ghost empty: { room.items ≡ [] },
+    ghost fits: { most ≤ vec_capacity room },
+}
+
+impl Call for HandOutSeveralCall {
+    type Answer = HandedMessages;
+
+    ghost replies = { λ call answer p q. SeveralReplies p call.search call.most answer q };
+
+    fn make(self, number: u32, provider: &mut NumberedProvider) -> HandedMessages {
+        let HandOutSeveralCall { search, most, room } = self;
+        provider.hand_out_several(number, search, most, room)
+    }
+}
+
 /// Ends the search with this number.
 pub(crate) struct DropCall {
     pub(crate) search: u64,
@@ -144,6 +167,20 @@ impl Call for DropCall {
     fn make(self, number: u32, provider: &mut NumberedProvider) -> bool {
         let DropCall { search } = self;
         provider.drop_search(number, search)
+    }
+}
+
+/// Looks at the directory, and does nothing.
+#[derive(Drop)]
+pub(crate) struct LookCall;
+
+impl Call for LookCall {
+    type Answer = ();
+
+    ghost replies = { λ call answer p q. q ≡ p };
+
+    fn make(self, number: u32, provider: &mut NumberedProvider) {
+        provider.look(number)
     }
 }
 

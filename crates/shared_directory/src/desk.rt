@@ -1,7 +1,7 @@
 //! The port of a pass at a shared directory.
 
 ghost use Rattle.std.specs.Prelude.{◌≡◌, true, length, is_some};
-ghost use Rattle.sync_provider.specs.Ports.{IsReplied};
+ghost use Rattle.sync_provider.specs.Ports.{HasMet, IsReplied};
 ghost use Rattle.turn_cell.specs.Passes.{view_of};
 ghost use Rattle.shared_directory.specs.Passes.{
   directory_id,
@@ -14,7 +14,7 @@ ghost use Rattle.shared_directory.specs.Passes.{
 
 use crate::calls::Call;
 use crate::directory::{DirectoryPass, SharedDirectory};
-use crate::turning::take_turn;
+use crate::turning::{take_turn, take_turn_beside};
 use std::sync::Wait;
 use turn_cell::seen;
 
@@ -53,6 +53,26 @@ impl<'a, R: Wait> Desk<'a, R> {
         let (pass, answer) = take_turn(self.rt, &self.directory.cell, pass, call);
         self.pass = Some(pass);
         answer
+    }
+
+    /// One turn, which shows what another desk of the directory has seen.
+    pub(crate) fn turn_beside(&mut self, other: &mut Desk<'a, R>)
+        requires { self.old.directory.now ≡ other.old.directory.now }
+        ensures home { self.new.directory.now ≡ self.old.directory.now }
+        ensures met { HasMet (port_of (view_or self.old.pass)) (port_of (view_or other.old.pass))
+            (port_of (view_or self.new.pass)) }
+        ensures other_home { other.new.directory.now ≡ other.old.directory.now }
+        ensures other { port_of (view_or other.new.pass) ≡ port_of (view_or other.old.pass) }
+    {
+        let Some(pass) = self.pass.take() else {
+            unreachable!()
+        };
+        let Some(mut beside) = other.pass.take() else {
+            unreachable!()
+        };
+        let pass = take_turn_beside(self.rt, &self.directory.cell, pass, &mut beside);
+        self.pass = Some(pass);
+        other.pass = Some(beside);
     }
 
     /// Gives the pass back. Its searches stay open.

@@ -22,6 +22,7 @@ use std::sync::Wait;
 use sync_provider::{NoMemory, Provider};
 use turn_cell::{CloseFault, Pass, TurnCell};
 
+/// A directory that passes take turns with.
 pub type DirectoryCell = TurnCell<HeldDirectory>;
 
 /// The right to call at a directory. It can go to another thread.

@@ -4,7 +4,7 @@ ghost use Rattle.std.specs.Prelude.{◌≡◌, ◌<◌, ◌≤◌, ◌++◌, [],
 ghost use Rattle.std.specs.List.{list_all};
 ghost use Rattle.entry_tree.specs.Fitting.{is_within_entry_limit};
 ghost use Rattle.entry_tree.specs.Sound.{is_commit, is_sound_op, is_sound_put};
-ghost use Rattle.sync_provider.specs.Ports.{WriteReplies, CommitReplies, SearchReplies, CompareReplies, AcceptReplies, HandOutReplies, DropReplies, WritesReplies};
+ghost use Rattle.sync_provider.specs.Ports.{WriteReplies, CommitReplies, SearchReplies, CompareReplies, AcceptReplies, HandOutReplies, SeveralReplies, DropReplies, WritesReplies};
 ghost use Rattle.shared_directory.specs.Desks as desks;
 ghost use Rattle.shared_directory.specs.Desks.{first_state, port_journal, IsAnswered};
 
@@ -12,11 +12,13 @@ use dn_names::Dn;
 use entry_tree::{EntryList, Op};
 use ldap_ber::discard;
 use ldap_constants::OTHER;
+use ldap_messages::Message;
 use std::alloc::Global;
 use std::marker::Model;
 use sync_messages::IdList;
 use sync_provider::{
-    Accepted, CommitFault, Handed, Kind, PlainSearch, Provider, Reply, SearchReply, SyncSearch,
+    Accepted, CommitFault, HandOutStop, Handed, HandedMessages, Kind, PlainSearch, Provider, Reply,
+    SearchReply, SyncSearch,
 };
 
 /// One more than the greatest number of a search.
@@ -180,6 +182,33 @@ impl NumberedProvider {
         self.provider.hand_out(search)
     }
 
+    /// The next messages of a search, `most` at most, where this port opened it. They are put into
+    /// the room, which has to be empty.
+    pub(crate) fn hand_out_several(
+        &mut self,
+        number: u32,
+        search: u64,
+        most: usize,
+        room: Vec<Message>,
+    ) -> HandedMessages
+        requires empty { room.items ≡ [] }
+        requires fits { most ≤ vec_capacity room }
+        ensures { IsAnswered number self.old self.new
+            (λ p q. SeveralReplies p search most result q) }
+    {
+        let mut messages = room;
+        for _ in 0..most {
+            match self.hand_out(number, search).into_message() {
+                Ok(message) => messages.push_reserved(message),
+                Err(stop) => return HandedMessages { messages, stop },
+            }
+        }
+        HandedMessages {
+            messages,
+            stop: HandOutStop::Enough,
+        }
+    }
+
     /// Ends a search, where this port opened it.
     pub(crate) fn drop_search(&mut self, number: u32, search: u64) -> bool
         ensures { IsAnswered number self.old self.new (λ p q. DropReplies p search result q) }
@@ -189,6 +218,11 @@ impl NumberedProvider {
         }
         self.provider.drop_search(search)
     }
+
+    /// Does nothing.
+    pub(crate) fn look(&self, number: u32)
+        ensures { IsAnswered number self.now self.now (λ p q. q ≡ p) }
+    {}
 
     /// How many writes were accepted.
     pub(crate) fn writes(&self, number: u32) -> u64

@@ -3,16 +3,19 @@
 ghost use Rattle.shared_directory.specs.Passes.{port_of, view_or};
 
 use crate::calls::{
-    AcceptCall, CommitCall, CompareCall, DropCall, HandOutCall, SearchCall, WriteCall, WritesCall,
+    AcceptCall, CommitCall, CompareCall, DropCall, HandOutCall, HandOutSeveralCall, SearchCall,
+    WriteCall, WritesCall,
 };
 use crate::desk::Desk;
 use crate::directory::SharedDirectory;
 use dn_names::Dn;
 use entry_tree::{EntryList, Op};
+use ldap_messages::Message;
 use std::sync::Wait;
 use sync_messages::IdList;
 use sync_provider::{
-    Accepted, CommitFault, Handed, PlainSearch, Port, Reply, SearchReply, SyncSearch,
+    Accepted, CommitFault, Handed, HandedMessages, PlainSearch, Port, Reply, SearchReply,
+    SyncSearch,
 };
 
 impl<R: Wait> Port for Desk<'_, R> {
@@ -46,11 +49,19 @@ impl<R: Wait> Port for Desk<'_, R> {
         self.call(HandOutCall { search })
     }
 
+    fn hand_out_several(&mut self, search: u64, most: usize, room: Vec<Message>) -> HandedMessages {
+        self.call(HandOutSeveralCall { search, most, room })
+    }
+
     fn drop_search(&mut self, search: u64) -> bool {
         self.call(DropCall { search })
     }
 
     fn writes(&mut self) -> u64 {
         self.call(WritesCall)
+    }
+
+    fn meet(&mut self, other: &mut Self) {
+        self.turn_beside(other)
     }
 }

@@ -8,6 +8,7 @@ use Rattle.shared_map.specs.Queries.{BeginAlike}
 nat_cmp-same : (x y : ℕ) → x ≡ y → nat_cmp x y ≡ Equal
 nat_cmp-same x y e = sym (nat_cmp_is x y Equal e)
 
+-- lists that begin alike are ordered by what follows
 pub slice_cmp-alike : (n : ℕ) (one other : List ℕ) → BeginAlike n one other
     → slice_cmp nat_cmp (drop n one) (drop n other) ≡ slice_cmp nat_cmp one other
 slice_cmp-alike zero one other alike = refl

@@ -58,6 +58,7 @@ module _ {K X : Type 0} {cmp : K → K → Ordering} {compare : K → Ordering}
       → NoKey (λ key. test (compare key)) r
   none_after test fails le = each_key (λ key e. ap test e ∙ fails) (keys_of r) (all_after le)
 
+  -- a look-up goes to the side of the pair on which the key is
   pub lookup-around : (o : Ordering) → compare x.0 ≡ o
       → lookup (is_at compare) (l ++ x ∷ r)
       ≡ match_ordering o (lookup (is_at compare) l) (Some x.1) (lookup (is_at compare) r)
@@ -70,6 +71,7 @@ module _ {K X : Type 0} {cmp : K → K → Ordering} {compare : K → Ordering}
       lookup-after (is_at compare) l (x ∷ r) (none_before is_eq refl (ap is_lt e))
       ∙ ap (λ b. cond b (Some x.1) (lookup (is_at compare) r)) (ap is_eq e)
 
+  -- so does a removal
   pub remove_entry-around : (o : Ordering) → compare x.0 ≡ o
       → remove_entry (is_at compare) (l ++ x ∷ r)
       ≡ match_ordering o (remove_entry (is_at compare) l ++ x ∷ r) (l ++ r)
@@ -141,6 +143,7 @@ module _ {K X : Type 0} {cmp : K → K → Ordering} {compare : K → Ordering}
 module _ {K X : Type 0} {cmp : K → K → Ordering} (total : IsTotalOrder cmp) (key : K) (value : X)
     (l : List (K × X)) (x : K × X) (r : List (K × X))
     (ascends : IsStrictlySortedBy cmp (keys_of (l ++ x ∷ r))) where
+  -- so does an insertion
   pub insert_entry-around : (o : Ordering) → cmp key x.0 ≡ o
       → insert_entry cmp (l ++ x ∷ r) key value
       ≡ match_ordering o (insert_entry cmp l key value ++ x ∷ r) (l ++ (x.0, value) ∷ r)

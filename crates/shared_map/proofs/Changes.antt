@@ -1,16 +1,13 @@
 -- What becomes of pairs with ascending keys by an insertion and by a removal.
-use Rattle.std.proofs.Common.{◌≡◌, refl, sym, ap, ap₂, ◌∙◌, true≢false, ◌+◌, Bool, true, false, cond, List, [], ◌∷◌, length, map, is_some, arith}
+use Rattle.std.proofs.Common.{◌≡◌, refl, sym, ap, ◌∙◌, true≢false, Bool, true, false, cond, List, [], ◌∷◌}
 use Rattle.std.proofs.Common.{Ordering, Less, Equal, Greater, is_eq}
-use Rattle.std.specs.Prelude.{Option, None, Some}
+use Rattle.std.specs.Prelude.{Option, Some}
 use Rattle.std.specs.BTreeMap.{is_at, insert_entry}
 use Rattle.std.specs.Cmp.{IsTotalOrder, both_ways}
 use Rattle.std.specs.List.{AllByRecursion}
 use Rattle.std.specs.List.Sorted.{IsStrictlySortedBy}
-use Rattle.std.specs.Map.{keys_of, values_of, lookup, remove_entry}
+use Rattle.std.specs.Map.{keys_of, lookup, remove_entry}
 use Rattle.std.specs.Ordering.{match_ordering, ordering_reverse, eq_by_cmp}
-use Rattle.std.proofs.lemmas.Cmp.{eq_by_cmp_equiv}
-use Rattle.std.proofs.lemmas.Map as maps
-use Rattle.std.proofs.lemmas.Map.Keys.{IsDistinct-from_sorted}
 use Rattle.shared_map.specs.Queries.{IsQuery}
 use Rattle.shared_map.proofs.Keys.{each_key}
 
@@ -113,6 +110,7 @@ module _ {K X : Type 0} {cmp : K → K → Ordering} (total : IsTotalOrder cmp) 
 -- ---- a removal
 
 module _ {K X : Type 0} (test : K → Bool) where
+  -- what holds of each key holds after a removal
   pub each-remove_entry : (P : K → Type 0) (es : List (K × X)) → AllByRecursion P (keys_of es)
       → AllByRecursion P (keys_of (remove_entry test es))
   each-remove_entry P [] all = tt
@@ -138,45 +136,4 @@ module _ {K X : Type 0} (test : K → Bool) where
       by false rest =
           (each-remove_entry (λ other. cmp e.0 other ≡ Less) es ascends.0, rest)
 
-  -- there is one pair less where one passes
-  pub length-remove_entry : (es : List (K × X)) → is_some (lookup test es) ≡ true
-      → length (remove_entry test es) + 1 ≡ length es
-  length-remove_entry [] found = absurd (true≢false (sym found))
-  length-remove_entry (e ∷ es) found = by (test e.0) found (length-remove_entry es)
-    where
-      by : (b : Bool) → is_some (cond b (Some e.1) (lookup test es)) ≡ true
-          → (is_some (lookup test es) ≡ true → length (remove_entry test es) + 1 ≡ length es)
-          → length (cond b es (e ∷ remove_entry test es)) + 1 ≡ length (e ∷ es)
-      by true found rest = omega arith
-      by false found rest = let less = rest found in omega arith
-
-  -- where none passes, nothing is removed
-  pub remove_entry-absent : (es : List (K × X)) → is_some (lookup test es) ≡ false
-      → remove_entry test es ≡ es
-  remove_entry-absent [] absent = refl
-  remove_entry-absent (e ∷ es) absent = by (test e.0) absent (remove_entry-absent es)
-    where
-      by : (b : Bool) → is_some (cond b (Some e.1) (lookup test es)) ≡ false
-          → (is_some (lookup test es) ≡ false → remove_entry test es ≡ es)
-          → cond b es (e ∷ remove_entry test es) ≡ e ∷ es
-      by true absent rest = absurd (true≢false absent)
-      by false absent rest = ap (λ rest. e ∷ rest) (rest absent)
-
--- a query for another key finds what it found before, and one for the removed key nothing
-pub lookup-remove_entry : {K X : Type 0} {cmp : K → K → Ordering} → IsTotalOrder cmp
-    → {compare : K → Ordering} → IsQuery cmp compare → (key : K) (es : List (K × X))
-    → IsStrictlySortedBy cmp (keys_of es)
-    → lookup (is_at (cmp key)) (remove_entry (is_at compare) es)
-    ≡ cond (is_at compare key) None (lookup (is_at (cmp key)) es)
-lookup-remove_entry {cmp = cmp} total {compare} query key es ascends =
-    maps.lookup-remove_entry (eq_by_cmp_equiv total) (is_at compare) (key_test query) key es
-    (IsDistinct-from_sorted cmp (keys_of es) ascends)
-
 -- ---- values
-
--- where a field of each value is its key, the values are in the order of that field
-pub keys-of_values : {K X : Type 0} (field : X → K) (es : List (K × X))
-    → AllByRecursion (λ e. field e.1 ≡ e.0) es → map field (values_of es) ≡ keys_of es
-keys-of_values field [] each = refl
-keys-of_values field (e ∷ es) each =
-    ap₂ (λ key keys. key ∷ keys) each.0 (keys-of_values field es each.1)

@@ -11,11 +11,13 @@ module _ {K : Type 0} {P Q : K → Type 0} (implies : (key : K) → P key → Q 
   each_key (key ∷ keys) all = (implies key all.0, each_key keys all.1)
 
 module _ {K X : Type 0} (P : K → Type 0) where
+  -- what holds of all keys holds of those before
   pub keys_before : (l r : List (K × X)) → AllByRecursion P (keys_of (l ++ r))
       → AllByRecursion P (keys_of l)
   keys_before [] r all = tt
   keys_before (e ∷ l) r all = (all.0, keys_before l r all.1)
 
+  -- and of those after
   pub keys_after : (l r : List (K × X)) → AllByRecursion P (keys_of (l ++ r))
       → AllByRecursion P (keys_of r)
   keys_after [] r all = all
@@ -30,6 +32,7 @@ module _ {K X : Type 0} (cmp : K → K → Ordering) where
   ascends_before (e ∷ l) r ascends =
       (keys_before (λ key. cmp e.0 key ≡ Less) l r ascends.0, ascends_before l r ascends.1)
 
+  -- the keys after a pair ascend
   pub ascends_after : (l : List (K × X)) (x : K × X) (r : List (K × X))
       → IsStrictlySortedBy cmp (keys_of (l ++ x ∷ r)) → IsStrictlySortedBy cmp (keys_of r)
   unfolding IsStrictlySortedBy

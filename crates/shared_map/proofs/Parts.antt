@@ -13,15 +13,18 @@ abbrev pub NoKey : {K X : Type 0} → (K → Bool) → List (K × X) → Type 0
 NoKey test es = AllByRecursion (λ key. test key ≡ false) (keys_of es)
 
 module _ {K X : Type 0} (test : K → Bool) where
+  -- a key that is not there is not found
   pub lookup-none : (es : List (K × X)) → NoKey test es → lookup test es ≡ None
   lookup-none [] fails = refl
   lookup-none (e ∷ es) fails =
       ap (λ b. cond b (Some e.1) (lookup test es)) fails.0 ∙ lookup-none es fails.1
 
+  -- where it is not in the second list, a look-up is one in the first
   pub lookup-before : (l r : List (K × X)) → NoKey test r → lookup test (l ++ r) ≡ lookup test l
   lookup-before [] r fails = lookup-none r fails
   lookup-before (e ∷ l) r fails = ap (cond (test e.0) (Some e.1)) (lookup-before l r fails)
 
+  -- where it is not in the first list, a look-up is one in the second
   pub lookup-after : (l r : List (K × X)) → NoKey test l → lookup test (l ++ r) ≡ lookup test r
   lookup-after [] r fails = refl
   lookup-after (e ∷ l) r fails =
@@ -47,12 +50,14 @@ module _ {K X : Type 0} (test : K → Bool) where
   lookup_entry-after (e ∷ l) r fails =
       ap (λ b. cond b (Some e) (lookup_entry test (l ++ r))) fails.0 ∙ lookup_entry-after l r fails.1
 
+  -- the removal of a key that is not there changes nothing
   pub remove_entry-none : (es : List (K × X)) → NoKey test es → remove_entry test es ≡ es
   remove_entry-none [] fails = refl
   remove_entry-none (e ∷ es) fails =
       ap (λ b. cond b es (e ∷ remove_entry test es)) fails.0
       ∙ ap (λ rest. e ∷ rest) (remove_entry-none es fails.1)
 
+  -- where it is not in the second list, a removal is one from the first
   pub remove_entry-before : (l r : List (K × X)) → NoKey test r
       → remove_entry test (l ++ r) ≡ remove_entry test l ++ r
   remove_entry-before [] r fails = remove_entry-none r fails
@@ -64,6 +69,7 @@ module _ {K X : Type 0} (test : K → Bool) where
       by true rest = refl
       by false rest = ap (λ rest. e ∷ rest) rest
 
+  -- where it is not in the first list, a removal is one from the second
   pub remove_entry-after : (l r : List (K × X)) → NoKey test l
       → remove_entry test (l ++ r) ≡ l ++ remove_entry test r
   remove_entry-after [] r fails = refl
@@ -133,6 +139,7 @@ module _ {K X : Type 0} (cmp : K → K → Ordering) (key : K) (value : X) where
 
 -- ---- a pair between two others at the top
 
+-- the order stays where the pair in between comes to the top
 pub regrouped : {A : Type 0} (l m h r : List A) (x y z : A)
     → (l ++ x ∷ m) ++ y ∷ (h ++ z ∷ r) ≡ l ++ x ∷ ((m ++ y ∷ h) ++ z ∷ r)
 regrouped l m h r x y z =

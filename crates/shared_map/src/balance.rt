@@ -3,7 +3,7 @@
 ghost use Rattle.std.specs.Prelude.{◌≡◌, ◌++◌, ◌∷◌, IfOk};
 ghost use Rattle.shared_map.specs.Nodes.{pair_of, pairs, pairs_of};
 
-use crate::nodes::{Node, Nodes, Pair, fork, fork_of};
+use crate::nodes::{MapPair, Node, Nodes, fork, fork_of};
 use std::alloc::{AllocError, Global};
 
 /// The node's pair and higher pairs, above these lower ones.
@@ -34,7 +34,7 @@ pub(crate) fn with_higher<K: Drop, V: Drop>(
 pub(crate) fn balanced<K: Drop, V: Drop>(
     alloc: Global,
     lower: Nodes<K, V>,
-    pair: Pair<K, V>,
+    pair: MapPair<K, V>,
     higher: Nodes<K, V>,
 ) -> Result<Nodes<K, V>, AllocError>
     ensures { IfOk result (λ nodes. pairs nodes ≡ pairs lower ++ pair_of pair ∷ pairs higher) }
@@ -51,7 +51,7 @@ pub(crate) fn balanced<K: Drop, V: Drop>(
 fn lower_raised<K: Drop, V: Drop>(
     alloc: Global,
     lower: Nodes<K, V>,
-    pair: Pair<K, V>,
+    pair: MapPair<K, V>,
     higher: Nodes<K, V>,
 ) -> Result<Nodes<K, V>, AllocError>
     ensures { IfOk result (λ nodes. pairs nodes ≡ pairs lower ++ pair_of pair ∷ pairs higher) }
@@ -70,7 +70,7 @@ fn lower_raised<K: Drop, V: Drop>(
 fn between_raised_from_lower<K: Drop, V: Drop>(
     alloc: Global,
     node: &Node<K, V>,
-    pair: Pair<K, V>,
+    pair: MapPair<K, V>,
     higher: Nodes<K, V>,
 ) -> Result<Nodes<K, V>, AllocError>
     ensures { IfOk result
@@ -88,7 +88,7 @@ fn between_raised_from_lower<K: Drop, V: Drop>(
 fn higher_raised<K: Drop, V: Drop>(
     alloc: Global,
     lower: Nodes<K, V>,
-    pair: Pair<K, V>,
+    pair: MapPair<K, V>,
     higher: Nodes<K, V>,
 ) -> Result<Nodes<K, V>, AllocError>
     ensures { IfOk result (λ nodes. pairs nodes ≡ pairs lower ++ pair_of pair ∷ pairs higher) }
@@ -108,7 +108,7 @@ fn higher_raised<K: Drop, V: Drop>(
 fn between_raised_from_higher<K: Drop, V: Drop>(
     alloc: Global,
     lower: Nodes<K, V>,
-    pair: Pair<K, V>,
+    pair: MapPair<K, V>,
     node: &Node<K, V>,
 ) -> Result<Nodes<K, V>, AllocError>
     ensures { IfOk result

@@ -3,7 +3,7 @@ ghost use Rattle.std.specs.Prelude.{◌≡◌, IfOk};
 ghost use Rattle.shared_map.specs.Nodes.{InsertsPair, pairs, pairs_of};
 
 use crate::balance::balanced;
-use crate::nodes::{Node, Nodes, Pair};
+use crate::nodes::{MapPair, Node, Nodes};
 use crate::placing::with_pair;
 use std::alloc::{AllocError, Global};
 use std::cmp::Ordering;
@@ -18,7 +18,7 @@ pub(crate) fn put_into<K: Ord + Drop, V: Drop>(
     alloc: Global,
     levels: u8,
     nodes: Nodes<K, V>,
-    pair: Pair<K, V>,
+    pair: MapPair<K, V>,
 ) -> (Nodes<K, V>, Result<bool, AllocError>)
     ensures { InsertsPair K.cmp pair (pairs nodes) (pairs result.0) result.1 }
 {
@@ -37,7 +37,7 @@ fn put_into_node<K: Ord + Drop, V: Drop>(
     alloc: Global,
     levels: u8,
     mut shared: Arc<Node<K, V>>,
-    pair: Pair<K, V>,
+    pair: MapPair<K, V>,
 ) -> (Nodes<K, V>, Result<bool, AllocError>)
     ensures { InsertsPair K.cmp pair (pairs_of shared.value) (pairs result.0) result.1 }
 {
@@ -54,7 +54,7 @@ fn put_below<K: Ord + Drop, V: Drop>(
     alloc: Global,
     levels: u8,
     node: &mut Node<K, V>,
-    pair: Pair<K, V>,
+    pair: MapPair<K, V>,
 ) -> Result<bool, AllocError>
     ensures { InsertsPair K.cmp pair (pairs_of node.old) (pairs_of node.new) result }
 {
@@ -83,7 +83,7 @@ fn put_below<K: Ord + Drop, V: Drop>(
 fn put_anew<K: Ord + Drop, V: Drop>(
     alloc: Global,
     nodes: Nodes<K, V>,
-    pair: Pair<K, V>,
+    pair: MapPair<K, V>,
 ) -> (Nodes<K, V>, Result<bool, AllocError>)
     ensures { InsertsPair K.cmp pair (pairs nodes) (pairs result.0) result.1 }
 {

@@ -7,7 +7,7 @@ use std::sync::Arc;
 
 /// A key with its value. Both are shared, so that a node is made anew with no copy of them.
 #[derive(Drop)]
-pub(crate) struct Pair<K, V> {
+pub(crate) struct MapPair<K, V> {
     pub(crate) key: Arc<K>,
     pub(crate) value: Arc<V>,
 }
@@ -25,17 +25,17 @@ pub(crate) enum Nodes<K, V> {
 #[derive(Drop)]
 pub(crate) struct Node<K, V> {
     pub(crate) lower: Nodes<K, V>,
-    pub(crate) pair: Pair<K, V>,
+    pub(crate) pair: MapPair<K, V>,
     pub(crate) higher: Nodes<K, V>,
     // How many nodes the longest way down has. It serves the balance alone.
     height: u8,
 }
 
-impl<K: Drop, V: Drop> Pair<K, V> {
-    pub(crate) fn copy(&self) -> Result<Pair<K, V>, AllocError>
+impl<K: Drop, V: Drop> MapPair<K, V> {
+    pub(crate) fn copy(&self) -> Result<MapPair<K, V>, AllocError>
         ensures { IfOk result (λ pair. pair_of pair ≡ pair_of self.now) }
     {
-        Ok(Pair {
+        Ok(MapPair {
             key: self.key.clone()?,
             value: self.value.clone()?,
         })
@@ -102,7 +102,7 @@ impl<K: Drop, V: Drop> Node<K, V> {
 pub(crate) fn fork<K: Drop, V: Drop>(
     alloc: Global,
     lower: Nodes<K, V>,
-    pair: Pair<K, V>,
+    pair: MapPair<K, V>,
     higher: Nodes<K, V>,
 ) -> Result<Nodes<K, V>, AllocError>
     ensures { IfOk result (λ nodes. pairs nodes ≡ pairs lower ++ pair_of pair ∷ pairs higher) }
@@ -124,7 +124,7 @@ pub(crate) fn fork<K: Drop, V: Drop>(
 pub(crate) fn fork_of<K: Drop, V: Drop>(
     alloc: Global,
     lower: &Nodes<K, V>,
-    pair: &Pair<K, V>,
+    pair: &MapPair<K, V>,
     higher: &Nodes<K, V>,
 ) -> Result<Nodes<K, V>, AllocError>
     ensures { IfOk result

@@ -8,7 +8,7 @@ ghost use Rattle.std.specs.BTreeMap.{is_at, insert_entry};
 ghost use Rattle.shared_map.specs.Nodes.{count_with, pair_of};
 
 use crate::in_place::put_into;
-use crate::nodes::{Nodes, Pair};
+use crate::nodes::{MapPair, Nodes};
 use crate::queries::Query;
 use crate::seeking::{first_pair, last_pair, pair_after, pair_from, value_at};
 use crate::taking_out::take_from;
@@ -161,7 +161,7 @@ impl<K: Ord + Drop, V: Drop> SharedMap<K, V> {
         if self.len == MOST_PAIRS {
             return Err(AllocError);
         }
-        let pair = Pair {
+        let pair = MapPair {
             key: Arc::new(self.alloc, key)?,
             value: Arc::new(self.alloc, value)?,
         };
@@ -181,14 +181,11 @@ impl<K: Ord + Drop, V: Drop> SharedMap<K, V> {
             (self.new ≡ remove_entry (is_at (Q.compare key)) self.old) }
         ensures err { OnErr result (self.new ≡ self.old) }
     {
-        if self.get(key).is_none() {
-            return Ok(());
-        }
         let root = mem::replace(&mut self.root, Nodes::Nothing);
         let (root, answer) = take_from(self.alloc, MOST_LEVELS, root, key);
         self.root = root;
-        answer?;
-        self.len -= 1;
+        let was_there = answer?;
+        self.len = count_without(self.len, was_there);
         Ok(())
     }
 }
@@ -201,7 +198,15 @@ fn count_with(count: usize, is_new: bool) -> usize
     if is_new { count + 1 } else { count }
 }
 
-fn lent<'a, K, V>(pair: Option<&'a Pair<K, V>>) -> Option<(&'a K, &'a V)>
+/// How many pairs there are with one less, or with one whose key was not there.
+fn count_without(count: usize, was_there: bool) -> usize
+    requires { IsTrue was_there → 0 < count }
+    ensures { count ≡ count_with was_there result }
+{
+    if was_there { count - 1 } else { count }
+}
+
+fn lent<'a, K, V>(pair: Option<&'a MapPair<K, V>>) -> Option<(&'a K, &'a V)>
     ensures { option_map (λ pair. (pair.0.now, pair.1.now)) result
         ≡ option_map (λ pair. pair_of pair.now) pair.entry }
 {

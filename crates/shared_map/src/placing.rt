@@ -6,7 +6,7 @@ ghost use Rattle.std.specs.Map.{keys_of};
 ghost use Rattle.shared_map.specs.Nodes.{count_with, pairs};
 
 use crate::balance::{with_higher, with_lower};
-use crate::nodes::{Node, Nodes, Pair, fork};
+use crate::nodes::{MapPair, Node, Nodes, fork};
 use std::alloc::{AllocError, Global};
 use std::cmp::Ordering;
 use std::sync::Arc;
@@ -15,7 +15,7 @@ use std::sync::Arc;
 pub(crate) fn with_pair<K: Ord + Drop, V: Drop>(
     alloc: Global,
     nodes: &Nodes<K, V>,
-    pair: Pair<K, V>,
+    pair: MapPair<K, V>,
 ) -> Result<(Nodes<K, V>, bool), AllocError>
     ensures pairs { IsStrictlySortedBy K.cmp (keys_of (pairs nodes.now)) → IfOk result (λ after.
         pairs after.0 ≡ insert_entry K.cmp (pairs nodes.now) pair.key.value pair.value.value) }
@@ -59,7 +59,7 @@ fn with_value<K: Drop, V: Drop>(
     ensures { IfOk result (λ after. pairs after
         ≡ pairs node.now.lower ++ (node.now.pair.key.value, value.value) ∷ pairs node.now.higher) }
 {
-    let pair = Pair {
+    let pair = MapPair {
         key: node.pair.key.clone()?,
         value,
     };

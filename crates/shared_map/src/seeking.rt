@@ -7,7 +7,7 @@ ghost use Rattle.std.specs.Map.{keys_of, lookup, lookup_entry};
 ghost use Rattle.std.specs.BTreeMap.{is_at};
 ghost use Rattle.shared_map.specs.Nodes.{pair_of, pairs};
 
-use crate::nodes::{Nodes, Pair};
+use crate::nodes::{MapPair, Nodes};
 use crate::queries::Query;
 use std::cmp::Ordering;
 
@@ -33,7 +33,7 @@ pub(crate) fn value_at<'a, K: Ord, V, Q: Query<K>>(nodes: &'a Nodes<K, V>, key: 
 pub(crate) fn pair_from<'a, K: Ord, V, Q: Query<K>>(
     nodes: &'a Nodes<K, V>,
     key: Q,
-) -> Option<&'a Pair<K, V>>
+) -> Option<&'a MapPair<K, V>>
     ensures { IsStrictlySortedBy K.cmp (keys_of (pairs nodes.now))
         → option_map (λ pair. pair_of pair.now) result
         ≡ lookup_entry (λ other. is_le (Q.compare key other)) (pairs nodes.now) }
@@ -55,7 +55,7 @@ pub(crate) fn pair_from<'a, K: Ord, V, Q: Query<K>>(
 pub(crate) fn pair_after<'a, K: Ord, V, Q: Query<K>>(
     nodes: &'a Nodes<K, V>,
     key: Q,
-) -> Option<&'a Pair<K, V>>
+) -> Option<&'a MapPair<K, V>>
     ensures { IsStrictlySortedBy K.cmp (keys_of (pairs nodes.now))
         → option_map (λ pair. pair_of pair.now) result
         ≡ lookup_entry (λ other. is_lt (Q.compare key other)) (pairs nodes.now) }
@@ -73,7 +73,7 @@ pub(crate) fn pair_after<'a, K: Ord, V, Q: Query<K>>(
     }
 }
 
-pub(crate) fn first_pair<K, V>(nodes: &Nodes<K, V>) -> Option<&Pair<K, V>>
+pub(crate) fn first_pair<K, V>(nodes: &Nodes<K, V>) -> Option<&MapPair<K, V>>
     ensures { option_map (λ pair. pair_of pair.now) result ≡ slice_get (pairs nodes.now) 0 }
 {
     match nodes {
@@ -82,7 +82,7 @@ pub(crate) fn first_pair<K, V>(nodes: &Nodes<K, V>) -> Option<&Pair<K, V>>
     }
 }
 
-pub(crate) fn last_pair<K, V>(nodes: &Nodes<K, V>) -> Option<&Pair<K, V>>
+pub(crate) fn last_pair<K, V>(nodes: &Nodes<K, V>) -> Option<&MapPair<K, V>>
     ensures { option_map (λ pair. pair_of pair.now) result
         ≡ slice_get (pairs nodes.now) (length (pairs nodes.now) - 1) }
 {

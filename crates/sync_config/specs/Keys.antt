@@ -1,9 +1,9 @@
 -- What stands under a key of a configuration, and the fault of one that is refused.
-use Rattle.std.specs.Prelude.{ℕ, ℤ, pos, int_le, unsigned_abs, ◌&&◌, not, Bool, List, Option, Some, None, Result, Ok, Err, is_some, if◌then◌else◌}
+use Rattle.std.specs.Prelude.{ℕ, ℤ, pos, int_le, unsigned_abs, ◌&&◌, not, Bool, false, List, Option, Some, None, Result, Ok, Err, is_some, if◌then◌else◌}
 use Rattle.dn_names.specs.declared.fault.NameFault.{NameFault}
 use Rattle.dn_names.specs.Names.{TypeAndValue}
 use Rattle.dn_names.specs.Reading.{name_of_text}
-use Rattle.toml.specs.Data.{Data, get, as_str, as_integer}
+use Rattle.toml.specs.Data.{Data, get, as_bool, as_str, as_integer}
 use Rattle.sync_config.specs.declared.fault.ConfigFault.{ConfigFault}
 use Rattle.sync_config.specs.declared.fault.ConfigFault.TheVariants.{MissingKey, BadValue}
 
@@ -65,6 +65,25 @@ number_of key least most absent (Some value) = integer_in key least most (as_int
 -- the number under a key, within these bounds, or this one where the key is absent
 abbrev pub number_at : List ℕ → ℕ → ℕ → ℕ → Data → Result ℕ ConfigFault
 number_at key least most absent document = number_of key least most absent (get key document)
+
+-- ---- flags
+
+abbrev pub flag_in : List ℕ → Option Bool → Result Bool ConfigFault
+flag_in key None = Err (BadValue key)
+flag_in key (Some flag) = Ok flag
+
+-- a flag, which an absent key leaves down
+abbrev pub flag_of : List ℕ → Option Data → Result Bool ConfigFault
+flag_of key None = Ok false
+flag_of key (Some value) = flag_in key (as_bool value)
+
+-- ---- one key after another
+
+-- goes on with what is found, or ends with its fault
+abbrev pub with_found : {A B : Type 0}
+    → Result A ConfigFault → (A → Result B ConfigFault) → Result B ConfigFault
+with_found (Ok value) later = later value
+with_found (Err fault) later = Err fault
 
 -- ---- keys beside others
 

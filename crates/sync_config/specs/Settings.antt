@@ -1,11 +1,12 @@
 -- What a configuration is read as, or which of its keys is refused first.
-use Rattle.std.specs.Prelude.{◌≡◌, ℕ, ⊤, true, not, List, Option, Some, None, Result, Ok, Err, IsUtf8, codes}
+use Rattle.std.specs.Prelude.{◌≡◌, ℕ, ⊤, not, List, Option, Some, None, Result, Ok, Err, IsUtf8, codes, option_map}
 use Rattle.toml.specs.Data.{Data, Members, table}
 use Rattle.toml.specs.Parse.{parse_document}
 use Rattle.sync_config.specs.declared.config.Config.{Config}
 use Rattle.sync_config.specs.declared.fault.ConfigFault.{ConfigFault}
 use Rattle.sync_config.specs.declared.fault.ConfigFault.TheVariants.{NotToml, MissingKey, BadValue, NoMemory}
-use Rattle.sync_config.specs.Keys.{Name, has, text_at, required, name_at, number_at, needed, forbidden}
+use Rattle.sync_config.specs.Keys.{Name, has, text_at, required, name_at, number_at, needed, forbidden, with_found}
+use Rattle.sync_config.specs.Upstreams.{FollowedValue, UpstreamValue, upstream_of, upstream_value}
 
 -- the address at which the directory is served
 abbrev pub listen_of : Data → Result (List ℕ) ConfigFault
@@ -53,14 +54,45 @@ seats_of document = number_at (codes "seats") 1 64 16 document
 abbrev pub connections_of : Data → Result ℕ ConfigFault
 connections_of document = number_at (codes "connections") 0 1000000 0 document
 
--- goes on with what is found, or ends with its fault
-abbrev pub with_found : {A B : Type 0}
-    → Result A ConfigFault → (A → Result B ConfigFault) → Result B ConfigFault
-with_found (Ok value) later = later value
-with_found (Err fault) later = Err fault
+-- a configuration, with the filter of its upstream seen as a tree, and how many connections to it
+-- are tried, which is 0 without one
+pub record ConfigValue : Type 0 where
+  pub listen : List ℕ
+  pub suffix : Option Name
+  pub sid : ℕ
+  pub ldif : Option (List ℕ)
+  pub log_limit : ℕ
+  pub queue_limit : ℕ
+  pub bind_name : Option Name
+  pub bind_password : Option (List ℕ)
+  pub seats : ℕ
+  pub connections : ℕ
+  pub upstream : Option UpstreamValue
+  pub rounds : ℕ
 
--- the keys, in the order in which they are judged; to follow another directory is refused so far
-abbrev pub config_of : Data → Result Config ConfigFault
+abbrev pub config_value : Config → ConfigValue
+config_value config = record {
+  listen = config.listen;
+  suffix = config.suffix;
+  sid = config.sid;
+  ldif = config.ldif;
+  log_limit = config.log_limit;
+  queue_limit = config.queue_limit;
+  bind_name = config.bind_name;
+  bind_password = config.bind_password;
+  seats = config.seats;
+  connections = config.connections;
+  upstream = option_map upstream_value config.upstream;
+  rounds = config.rounds;
+}
+
+-- how many connections to an upstream are tried
+abbrev pub rounds_in : Option FollowedValue → ℕ
+rounds_in None = 0
+rounds_in (Some followed) = followed.rounds
+
+-- the keys, in the order in which they are judged
+abbrev pub config_of : Data → Result ConfigValue ConfigFault
 config_of document =
     with_found (listen_of document) (λ listen.
     with_found (suffix_of document) (λ suffix.
@@ -72,7 +104,8 @@ config_of document =
     with_found (bind_password_of document) (λ bind_password.
     with_found (seats_of document) (λ seats.
     with_found (connections_of document) (λ connections.
-    forbidden (codes "upstream") true document (Ok (record {
+    with_found (upstream_of document) (λ followed.
+    Ok (record {
       listen = listen;
       suffix = suffix;
       sid = sid;
@@ -83,6 +116,8 @@ config_of document =
       bind_password = bind_password;
       seats = seats;
       connections = connections;
+      upstream = option_map (λ (f : FollowedValue). f.upstream) followed;
+      rounds = rounds_in followed;
     }))))))))))))
 
 -- the bytes are a document of TOML with these members
@@ -90,11 +125,16 @@ pub record IsDocument (text : List ℕ) (members : Members) : Type 0 where
   pub encoded : IsUtf8 text
   pub parsed : parse_document text ≡ Some members
 
+-- an answer, with its configuration seen as a value
+abbrev pub answered : Result Config ConfigFault → Result ConfigValue ConfigFault
+answered (Ok config) = Ok (config_value config)
+answered (Err fault) = Err fault
+
 -- the bytes are a document, which gives this configuration, or the fault of its first key that is
 -- refused
 abbrev pub IsReadAs : List ℕ → Result Config ConfigFault → Type 0
 IsReadAs text answer =
-    (members : Members) × IsDocument text members × (config_of (table members) ≡ answer)
+    (members : Members) × IsDocument text members × (config_of (table members) ≡ answered answer)
 
 -- when a text is refused with this fault; out of memory reports nothing
 abbrev pub Refuses : List ℕ → ConfigFault → Type 0

@@ -1,8 +1,12 @@
 //! Configurations.
-ghost use Rattle.std.specs.Prelude.{◌≡◌, ◌≢◌, Ok, Err, IfOk, IfErr};
+ghost use Rattle.std.specs.Prelude.{◌≡◌, ◌≢◌, ◌≤◌, Ok, Err, IfOk, IfErr, IfSome, option_map};
+ghost use Rattle.ldap_filter.specs.FilterTree.{depth, tree_of};
+ghost use Rattle.sync_config.specs.Upstreams.{followed_value, upstream_of};
 ghost use Rattle.toml.specs.View.{view};
 ghost use Rattle.sync_config.specs.Settings.{
   config_of,
+  config_value,
+  rounds_in,
   suffix_of,
   sid_of,
   ldif_of,
@@ -20,7 +24,8 @@ ghost use Rattle.sync_config.specs.declared.fault.ConfigFault.TheVariants.{NotTo
 use crate::keys::{
     Range, check_forbidden, check_needed, copied_text_at, has, name_at, number_at, required_text_at,
 };
-use crate::{ConfigFault, Text};
+use crate::upstream::{Followed, upstream_in};
+use crate::{ConfigFault, ConfigText, Upstream};
 use dn_names::Dn;
 use std::alloc::Global;
 use toml::{Value, table_from_slice};
@@ -29,31 +34,37 @@ use toml::{Value, table_from_slice};
 #[derive(Drop)]
 pub struct Config {
     /// The address at which it listens.
-    pub listen: Text,
+    pub listen: ConfigText,
     /// It is there where the directory follows no other one.
     pub suffix: Option<Dn>,
     /// The server id of its CSNs.
     pub sid: u16,
     /// The name of a file with its first entries.
-    pub ldif: Option<Text>,
+    pub ldif: Option<ConfigText>,
     /// How many touches of entries its session log keeps.
     pub log_limit: u64,
     /// How many messages a search may have pending.
     pub queue_limit: u64,
     /// The name that may write, which has a password, or none where everyone may.
     pub bind_name: Option<Dn>,
-    pub bind_password: Option<Text>,
+    pub bind_password: Option<ConfigText>,
     /// How many clients are served at once.
     pub seats: u32,
     /// How many clients are served in all; 0 without end.
     pub connections: u64,
+    /// The directory that it follows.
+    pub upstream: Option<Upstream>,
+    /// How many connections to that are tried; 0 without end, and where it follows none.
+    pub rounds: u64,
 }
 
 impl Config {
     /// Reads a configuration. The first key that is refused is reported, in the order of the
-    /// fields, and last `upstream`; keys that are not known are passed over.
+    /// fields; keys that are not known are passed over.
     pub fn read(alloc: Global, text: &[u8]) -> Result<Config, ConfigFault>
         ensures ok { IfOk result (λ config. IsReadAs text.now (Ok config)) }
+        ensures filter { IfOk result (λ config. IfSome config.upstream
+            (λ upstream. depth (tree_of upstream.spec.filter) ≤ 32)) }
         ensures fault { IfErr result (Refuses text.now) }
     {
         match table_from_slice(alloc, text) {
@@ -66,7 +77,10 @@ impl Config {
 
 /// The keys of a document, one after another.
 fn read_document(alloc: Global, document: &Value) -> Result<Config, ConfigFault>
-    ensures ok { IfOk result (λ config. config_of (view document.now) ≡ Ok config) }
+    ensures ok { IfOk result
+        (λ config. config_of (view document.now) ≡ Ok (config_value config)) }
+    ensures filter { IfOk result (λ config. IfSome config.upstream
+        (λ upstream. depth (tree_of upstream.spec.filter) ≤ 32)) }
     ensures fault { IfErr result
         (λ fault. fault ≢ NoMemory → config_of (view document.now) ≡ Err fault) }
     ensures keyed { IfErr result (λ fault. fault ≢ NotToml) }
@@ -81,7 +95,8 @@ fn read_document(alloc: Global, document: &Value) -> Result<Config, ConfigFault>
     let bind_password = bind_password_of(alloc, document)?;
     let seats = seats_of(alloc, document)?;
     let connections = connections_of(alloc, document)?;
-    check_forbidden(alloc, document, "upstream", true)?;
+    let followed = upstream_of(alloc, document)?;
+    let (upstream, rounds) = parts_of(followed);
     Ok(Config {
         listen,
         suffix,
@@ -93,7 +108,39 @@ fn read_document(alloc: Global, document: &Value) -> Result<Config, ConfigFault>
         bind_password,
         seats,
         connections,
+        upstream,
+        rounds,
     })
+}
+
+/// What stands under `upstream`, if it is there.
+fn upstream_of(alloc: Global, document: &Value) -> Result<Option<Followed>, ConfigFault>
+    ensures ok { IfOk result (λ found. upstream_of (view document.now)
+        ≡ Ok (option_map followed_value found)) }
+    ensures filter { IfOk result (λ found. IfSome found (λ followed.
+        depth (tree_of followed.upstream.spec.filter) ≤ 32)) }
+    ensures fault { IfErr result
+        (λ fault. fault ≢ NoMemory → upstream_of (view document.now) ≡ Err fault) }
+    ensures keyed { IfErr result (λ fault. fault ≢ NotToml) }
+{
+    match document.get("upstream") {
+        Some(table) => match upstream_in(alloc, table) {
+            Ok(followed) => Ok(Some(followed)),
+            Err(fault) => Err(fault),
+        },
+        None => Ok(None),
+    }
+}
+
+/// An upstream, and how many connections to it are tried.
+fn parts_of(followed: Option<Followed>) -> (Option<Upstream>, u64)
+    ensures upstream { result.0 ≡ option_map (λ f. f.upstream) followed }
+    ensures rounds { result.1 ≡ rounds_in (option_map followed_value followed) }
+{
+    match followed {
+        Some(Followed { upstream, rounds }) => (Some(upstream), u64::from(rounds)),
+        None => (None, 0),
+    }
 }
 
 fn suffix_of(alloc: Global, document: &Value) -> Result<Option<Dn>, ConfigFault>
@@ -120,7 +167,7 @@ fn sid_of(alloc: Global, document: &Value) -> Result<u16, ConfigFault>
     Ok(number_at(alloc, document, "sid", range)? as u16)
 }
 
-fn ldif_of(alloc: Global, document: &Value) -> Result<Option<Text>, ConfigFault>
+fn ldif_of(alloc: Global, document: &Value) -> Result<Option<ConfigText>, ConfigFault>
     ensures ok { IfOk result (λ found. ldif_of (view document.now) ≡ Ok found) }
     ensures fault { IfErr result
         (λ fault. fault ≢ NoMemory → ldif_of (view document.now) ≡ Err fault) }
@@ -168,7 +215,7 @@ fn bind_name_of(alloc: Global, document: &Value) -> Result<Option<Dn>, ConfigFau
     name_at(alloc, document, "bind_name")
 }
 
-fn bind_password_of(alloc: Global, document: &Value) -> Result<Option<Text>, ConfigFault>
+fn bind_password_of(alloc: Global, document: &Value) -> Result<Option<ConfigText>, ConfigFault>
     ensures ok { IfOk result (λ found. bind_password_of (view document.now) ≡ Ok found) }
     ensures fault { IfErr result
         (λ fault. fault ≢ NoMemory → bind_password_of (view document.now) ≡ Err fault) }

@@ -2,7 +2,7 @@
 ghost use Rattle.std.specs.Prelude.{◌≡◌, ◌≢◌};
 ghost use Rattle.sync_config.specs.declared.fault.ConfigFault.TheVariants.{NotToml, NoMemory, MissingKey, BadValue};
 
-use crate::Text;
+use crate::ConfigText;
 use std::alloc::{AllocError, Global};
 
 /// Why a configuration is refused, with the first key that is refused.
@@ -11,9 +11,9 @@ pub enum ConfigFault {
     /// The text is no TOML in UTF-8.
     NotToml,
     /// The key is absent, though it has to be there.
-    MissingKey(Text),
+    MissingKey(ConfigText),
     /// What stands under the key is of another kind, out of its range, or no text of its form.
-    BadValue(Text),
+    BadValue(ConfigText),
     /// Out of memory.
     NoMemory,
 }
@@ -31,7 +31,7 @@ pub(crate) fn missing_key(alloc: Global, key: &str) -> ConfigFault
     ensures fault { result ≢ NoMemory → result ≡ MissingKey key.now }
     ensures keyed { result ≢ NotToml }
 {
-    match Text::from_str(alloc, key) {
+    match ConfigText::from_str(alloc, key) {
         Ok(key) => ConfigFault::MissingKey(key),
         Err(_) => ConfigFault::NoMemory,
     }
@@ -42,7 +42,7 @@ pub(crate) fn bad_value(alloc: Global, key: &str) -> ConfigFault
     ensures fault { result ≢ NoMemory → result ≡ BadValue key.now }
     ensures keyed { result ≢ NotToml }
 {
-    match Text::from_str(alloc, key) {
+    match ConfigText::from_str(alloc, key) {
         Ok(key) => ConfigFault::BadValue(key),
         Err(_) => ConfigFault::NoMemory,
     }

@@ -12,16 +12,21 @@
 //! | `bind_password` | a text; beside `bind_name` | no password |
 //! | `seats` | 1 to 64 | 16 |
 //! | `connections` | 0 to 1,000,000 | 0 |
+//! | `upstream` | a table: the directory that it follows | none |
 //!
-//! The keys are judged in this order. `upstream`, by which a directory is to follow another one, is
-//! judged after them and refused so far.
+//! The table has the keys `address`, `base`, `scope` (`base`, `one` or `sub`) and `filter`, which
+//! are texts, `reload_hint`, a Boolean (false), and `rounds`, 0 to 1,000,000 (0). Beside it
+//! `suffix` may be absent, and `ldif` is refused. The keys are judged in this order, those of the
+//! table in theirs.
 #![tactic(auto)]
 
 mod config;
 mod fault;
 mod keys;
 mod text;
+mod upstream;
 
 pub use config::Config;
 pub use fault::ConfigFault;
-pub use text::Text;
+pub use text::ConfigText;
+pub use upstream::Upstream;

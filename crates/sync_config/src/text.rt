@@ -6,11 +6,11 @@ use std::marker::Model;
 
 /// A text in UTF-8.
 #[derive(Debug, Drop)]
-pub struct Text {
+pub struct ConfigText {
     text: String,
 }
 
-impl Model for Text {
+impl Model for ConfigText {
     ghost use Rattle.std.specs.Prelude.{List, ℕ, string_bytes};
 
     ghost Value = { List ℕ };
@@ -18,12 +18,12 @@ impl Model for Text {
     ghost view = { λ t. string_bytes t.text };
 }
 
-impl Text {
+impl ConfigText {
     /// A copy of this text.
-    pub(crate) fn from_str(alloc: Global, text: &str) -> Result<Text, AllocError>
+    pub(crate) fn from_str(alloc: Global, text: &str) -> Result<ConfigText, AllocError>
         ensures { IfOk result (λ t. t ≡ text.now) }
     {
-        Ok(Text {
+        Ok(ConfigText {
             text: String::from_str(alloc, text)?,
         })
     }

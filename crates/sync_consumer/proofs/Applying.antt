@@ -5,8 +5,10 @@ use Rattle.std.specs.Option.{option_and_then}
 use Rattle.entry_tree.specs.declared.entry.Entry.{Entry}
 use Rattle.sync_model.specs.Copy.{Stage, effected, put_or_dropped, slot}
 use Rattle.sync_consumer.specs.declared.stage.StagedChange.{StagedChange}
-use Rattle.sync_consumer.specs.Holding.{HeldNames, stays, ForgetsFor, IsPathed, Notes, NotesAll}
-use Rattle.sync_consumer.specs.Staging.{change_of, changes_in, entry_staged, rises}
+use Rattle.entry_tree.specs.NameIndex.{HasPathKey}
+use Rattle.sync_consumer.specs.Holding.{HeldNames, stays, ForgetsFor, Notes, NotesAll}
+use Rattle.entry_tree.specs.Touched.{rises}
+use Rattle.sync_consumer.specs.Staging.{change_of, changes_in, entry_staged}
 use Rattle.sync_consumer.proofs.Effecting.{changes_from, alone_from}
 use Rattle.sync_consumer.proofs.Noting.{forgets_more, notes_more}
 
@@ -47,10 +49,10 @@ module _ (changes : List (Bor StagedChange)) (k left : ℕ) (change : Bor Staged
         (notes_more held old mid new (change_of change.now) rest others own alone (subst (λ (s : Stage). NotesAll held old mid s others) later first) last)
 
   -- and has a path key
-  pub pathed_from : ((u : ℕ) → IsPathed (entry_staged (changes_in (drop left changes)) u)) → IsPathed (change_of change.now).1 → (u : ℕ) → IsPathed (entry_staged (changes_in (drop k changes)) u)
+  pub pathed_from : ((u : ℕ) → HasPathKey (entry_staged (changes_in (drop left changes)) u)) → HasPathKey (change_of change.now).1 → (u : ℕ) → HasPathKey (entry_staged (changes_in (drop k changes)) u)
   pathed_from others own u =
-      subst (λ (s : Stage). IsPathed (entry_staged s u)) (sym from) (by (nat_eq u (change_of change.now).0) (subst (λ (s : Stage). IsPathed (entry_staged s u)) later (others u)))
+      subst (λ (s : Stage). HasPathKey (entry_staged s u)) (sym from) (by (nat_eq u (change_of change.now).0) (subst (λ (s : Stage). HasPathKey (entry_staged s u)) later (others u)))
     where
-      by : (b : Bool) → IsPathed (entry_staged rest u) → IsPathed (option_and_then (λ entry. entry) (cond b (Some (change_of change.now).1) (slot rest u)))
+      by : (b : Bool) → HasPathKey (entry_staged rest u) → HasPathKey (option_and_then (λ entry. entry) (cond b (Some (change_of change.now).1) (slot rest u)))
       by true p = own
       by false p = p

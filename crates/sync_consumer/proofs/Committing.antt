@@ -14,8 +14,9 @@ use Rattle.sync_model.proofs.Limits.{Ordered}
 use Rattle.sync_model.proofs.Stages as stages
 use Rattle.sync_model.proofs.Taking.{IsOwn, IsKeyed}
 use Rattle.sync_consumer.specs.Committing.{is_of}
-use Rattle.sync_consumer.specs.Staging.{rises}
-use Rattle.sync_consumer.proofs.Rising.{below_all, head_below, tail_rises}
+use Rattle.entry_tree.specs.Touched.{rises}
+use Rattle.entry_tree.proofs.Rising.{below_all}
+use Rattle.sync_consumer.proofs.Rising.{head_below, tail_rises}
 
 -- ---- each change is of its own identity
 

@@ -12,7 +12,8 @@ use Rattle.sync_model.specs.Copy.{Stage, effected, put_or_dropped, puts_of, slot
 use Rattle.sync_model.specs.Within.{against}
 use Rattle.sync_model.proofs.Taking.{IsOwn, IsKeyed, ascends-effected}
 use Rattle.sync_consumer.specs.Holding.{IsConsumerContent, HeldNames, IsEntryMap}
-use Rattle.sync_consumer.specs.Staging.{change_of, changes_in, rises}
+use Rattle.entry_tree.specs.Touched.{rises}
+use Rattle.sync_consumer.specs.Staging.{change_of, changes_in}
 use Rattle.sync_consumer.specs.declared.stage.StagedChange.{StagedChange}
 use Rattle.sync_consumer.specs.declared.stage.StagedChange.TheVariants.{AddOrModify, Delete}
 use Rattle.sync_consumer.proofs.Keyed.{lookup_below}

@@ -17,7 +17,8 @@ use Rattle.entry_tree.proofs.Changing.{own_uuid}
 use Rattle.sync_model.specs.Copy.{Stage, effected, slot}
 use Rattle.sync_model.proofs.Taking.{IsKeyed, at-effected, ascends-effected}
 use Rattle.sync_consumer.specs.Committing.{HaveUniqueNames}
-use Rattle.sync_consumer.specs.Holding.{HeldNames, id_at, is_id, has_path, between, stays, after_stage, HasLeft, Notes, NotesAll, ArePathsApart, IsIndexOf, IsPathed}
+use Rattle.entry_tree.specs.NameIndex.{HasPathKey, has_path}
+use Rattle.sync_consumer.specs.Holding.{HeldNames, id_at, is_id, between, stays, after_stage, HasLeft, Notes, NotesAll, ArePathsApart, IsIndexOf}
 use Rattle.sync_consumer.specs.Staging.{entry_staged}
 use Rattle.sync_consumer.proofs.Naming.{all_apart}
 
@@ -83,10 +84,10 @@ all_at P (x ∷ es) u e all is = by (nat_eq x.uuid u) is (all_at P es u e (All-t
     by false there rest = rest there
 
 -- entries with path keys, of which no two have one name, have them apart
-pub paths_apart : (es : List Entry) → same_named es ≡ None → ((u : ℕ) → IsPathed (entry_at es u)) → ArePathsApart (λ u. entry_at es u)
+pub paths_apart : (es : List Entry) → same_named es ≡ None → ((u : ℕ) → HasPathKey (entry_at es u)) → ArePathsApart (λ u. entry_at es u)
 paths_apart es none pathed path one other has has' = by (entry_at es one) refl (entry_at es other) refl (pathed one) (pathed other) has has'
   where
-    by : (a : Option Entry) → entry_at es one ≡ a → (b : Option Entry) → entry_at es other ≡ b → IsPathed a → IsPathed b → has_path path a ≡ true → has_path path b ≡ true → one ≡ other
+    by : (a : Option Entry) → entry_at es one ≡ a → (b : Option Entry) → entry_at es other ≡ b → HasPathKey a → HasPathKey b → has_path path a ≡ true → has_path path b ≡ true → one ≡ other
     by None is b is' p q h h' = absurd (false≢true h)
     by (Some e) is None is' p q h h' = absurd (false≢true h')
     by (Some e) is (Some x) is' p q h h' =
@@ -128,15 +129,15 @@ module _ (held : List Entry) (stage : Stage) (up : ascends held ≡ true) (keyed
       named_apart_by_paths (effected held stage) (ascends-effected stage held up)
       (apart_by_notes names (λ u. entry_at (effected held stage) u) (notes_after left names are_free notes all (inl free)))
 
-  pathed_after : ((u : ℕ) → IsPathed (entry_at held u)) → ((u : ℕ) → IsPathed (entry_staged stage u)) → (u : ℕ) → IsPathed (entry_at (effected held stage) u)
-  pathed_after before put u = subst IsPathed (sym (at-effected stage held u up keyed)) (by (slot stage u) (put u))
+  pathed_after : ((u : ℕ) → HasPathKey (entry_at held u)) → ((u : ℕ) → HasPathKey (entry_staged stage u)) → (u : ℕ) → HasPathKey (entry_at (effected held stage) u)
+  pathed_after before put u = subst HasPathKey (sym (at-effected stage held u up keyed)) (by (slot stage u) (put u))
     where
-      by : (s : Option (Option Entry)) → IsPathed (option_and_then (λ entry. entry) s) → IsPathed (unwrap_or s (entry_at held u))
+      by : (s : Option (Option Entry)) → HasPathKey (option_and_then (λ entry. entry) s) → HasPathKey (unwrap_or s (entry_at held u))
       by None p = before u
       by (Some o) p = p
 
   -- where no two entries have one name, the names are theirs
-  pub index_after : (old left names : HeldNames) (are_free : Bool) → IsIndexOf old held → ((u : ℕ) → IsPathed (entry_staged stage u)) → Notes left (stays held stage)
+  pub index_after : (old left names : HeldNames) (are_free : Bool) → IsIndexOf old held → ((u : ℕ) → HasPathKey (entry_staged stage u)) → Notes left (stays held stage)
       → NotesAll held left names stage are_free → same_named (effected held stage) ≡ None → IsIndexOf names (effected held stage)
   index_after old left names are_free index put notes all none =
       let pathed = pathed_after index.pathed put in

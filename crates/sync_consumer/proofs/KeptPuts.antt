@@ -1,9 +1,8 @@
 -- Entries that are kept as the changes which put them: what a map of such changes gives is what one of
 -- the entries would.
-use Rattle.std.proofs.Common.{◌≡◌, ◌<◌, ◌≤◌, ◌-◌, ◌+◌, ◌^◌, ℕ, suc, Bool, true, false, not, ◌&&◌, cond, nat_lt, List, [], ◌∷◌, length, map, Option, Some, None, refl, sym, ap, subst, ◌∙◌, arith}
+use Rattle.std.proofs.Common.{◌≡◌, ◌<◌, ◌≤◌, ◌-◌, ◌+◌, ◌^◌, ℕ, suc, Bool, true, false, not, cond, nat_lt, List, [], ◌∷◌, length, map, Option, Some, None, refl, sym, ap, subst, ◌∙◌, arith}
 use Rattle.std.specs.Prelude.{filter, option_map, slice_get}
 use Rattle.std.specs.BTreeMap.{insert_entry, is_at}
-use Rattle.std.specs.List.{list_all}
 use Rattle.std.specs.Map.{keys_of, values_of, lookup, remove_entry}
 use Rattle.std.specs.Option.{option_and_then}
 use Rattle.std.specs.Ordering.{nat_cmp, is_lt, match_ordering}
@@ -16,14 +15,15 @@ use Rattle.std.proofs.lemmas.Option.{slice_get-map}
 use Rattle.schema_rules.specs.Attributes.{weight_of}
 use Rattle.entry_tree.specs.declared.entry.Entry.{Entry}
 use Rattle.entry_tree.specs.State.{ascends, entry_at, found_weight, is_identified, put, total_weight}
-use Rattle.entry_tree.specs.Touched.{identities}
+use Rattle.entry_tree.specs.Touched.{identities, rises}
+use Rattle.entry_tree.proofs.Committing.{rises-identities}
 use Rattle.entry_tree.proofs.Identities.{above}
 use Rattle.entry_tree.proofs.Putting.{put_before}
 use Rattle.sync_model.specs.Copy.{effected, puts_of}
 use Rattle.sync_consumer.specs.declared.stage.StagedChange.{StagedChange}
 use Rattle.sync_consumer.specs.declared.stage.StagedChange.TheVariants.{AddOrModify, Delete}
 use Rattle.sync_consumer.specs.Holding.{as_puts, entries_put, AreWeighedPuts}
-use Rattle.sync_consumer.specs.Staging.{change_of, changes_kept, higher, rises, IsStage}
+use Rattle.sync_consumer.specs.Staging.{change_of, changes_kept, higher, IsStage}
 use Rattle.sync_consumer.proofs.Stages.{limits, own_id}
 use Rattle.sync_consumer.proofs.Weighing.{Pairs, uuid_of, entry_by_key, last_identity, nothing_weighed, put_pairs, put_weighed, removed_pairs, removed_weighed, values_above}
 
@@ -32,10 +32,12 @@ Puts = List (ℕ × StagedChange)
 
 -- ---- none, and the same
 
+-- without changes nothing is put
 pub nothing_put : (changes : Puts) → changes ≡ [] → AreWeighedPuts changes 0
 nothing_put changes none =
     subst (λ (cs : Puts). AreWeighedPuts cs 0) (sym none) (record { puts = refl; weighed = nothing_weighed [] refl })
 
+-- equal changes put the same
 pub same_put : (changes changes' : Puts) (weight : ℕ) → changes' ≡ changes → AreWeighedPuts changes weight → AreWeighedPuts changes' weight
 same_put changes changes' weight same is = subst (λ (cs : Puts). AreWeighedPuts cs weight) (sym same) is
 
@@ -240,15 +242,7 @@ staged_put : (es : Pairs) → keys_of (changes_kept (as_puts es)) ≡ identities
 staged_put [] = refl
 staged_put (e ∷ es) = ap (λ (us : List ℕ). e.1.uuid ∷ us) (staged_put es)
 
--- entries ascend where their identities do
-below_each : (u : ℕ) (es : List Entry) → list_all (nat_lt u) (identities es) ≡ above u es
-below_each u [] = refl
-below_each u (e ∷ es) = ap (λ b. nat_lt u e.uuid && b) (below_each u es)
-
-rises_each : (es : List Entry) → rises (identities es) ≡ ascends es
-rises_each [] = refl
-rises_each (e ∷ es) = λ i. below_each e.uuid es i && rises_each es i
-
+-- a stage with as many puts as changes puts them all
 pub stage_put : (changes : Puts) (count weight : ℕ) → IsStage changes count weight → count ≡ length changes → AreWeighedPuts changes weight
 stage_put changes count weight is same =
     let es = entries_put changes in
@@ -259,7 +253,7 @@ stage_put changes count weight is same =
       puts = all;
       weighed = record {
         own = sym (keys_put es) ∙ ap (λ (cs : Puts). keys_of cs) (sym all) ∙ is.own ∙ ap (λ (cs : Puts). map own_id (values_of cs)) all ∙ owners_put es;
-        ordered = sym (rises_each (values_of es)) ∙ ap rises (sym (staged_put es)) ∙ ap (λ (cs : Puts). rises (keys_of (changes_kept cs))) (sym all) ∙ is.ordered;
+        ordered = sym (rises-identities (values_of es)) ∙ ap rises (sym (staged_put es)) ∙ ap (λ (cs : Puts). rises (keys_of (changes_kept cs))) (sym all) ∙ is.ordered;
         weighed = is.weighed ∙ total;
         small = omega (arith, is.weighed, light.1);
       };
@@ -280,6 +274,7 @@ effected_puts (e ∷ es) up =
     let p = and_parts (above e.1.uuid (values_of es)) (ascends (values_of es)) up in
     ap (put e.1) (effected_puts es p.1) ∙ put_first e.1 (values_of es) p.0 p.1
 
+-- the entries are those that it puts
 pub effected_alone : (changes : Puts) (weight : ℕ) → AreWeighedPuts changes weight → values_of (entries_put changes) ≡ effected [] (changes_kept changes)
 effected_alone changes weight is =
     sym (ap (λ (cs : Puts). effected [] (changes_kept cs)) is.puts ∙ effected_puts (entries_put changes) is.weighed.ordered)

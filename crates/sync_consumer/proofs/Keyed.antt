@@ -15,9 +15,9 @@ use Rattle.std.proofs.lemmas.List.Sums.{sum_by-cons}
 use Rattle.std.proofs.lemmas.Map.Lookups.{exact_unsigned}
 use Rattle.std.proofs.lemmas.Map.Made.{is_some-lookup}
 use Rattle.sync_model.specs.Stream.{among}
-use Rattle.sync_consumer.specs.Staging.{rises}
-use Rattle.sync_consumer.proofs.Rising.{below_all, tail_rises, head_below, rises-insert}
-use Rattle.entry_tree.proofs.Rising.{below_lower}
+use Rattle.entry_tree.specs.Touched.{rises}
+use Rattle.sync_consumer.proofs.Rising.{tail_rises, head_below}
+use Rattle.entry_tree.proofs.Rising.{below_lower, below_all, rises-insert}
 
 off : (u n : ℕ) → n < u → nat_eq u n ≡ false
 off u n less = ne_eqb u n (λ same. omega (arith, less, same))
@@ -59,6 +59,7 @@ module _ {X : Type 0} where
     abbrev pub AreOwn : List (ℕ × X) → Type 0
     AreOwn es = keys_of es ≡ map key (values_of es)
 
+    -- the first one, and those after it
     pub head_own : (e : ℕ × X) (es : List (ℕ × X)) → AreOwn (e ∷ es) → (e.0 ≡ key e.1) × AreOwn es
     head_own e es own = let first : e.0 ≡ key e.1 = (cc) in let rest : keys_of es ≡ map key (values_of es) = (cc) in (first, rest)
 

@@ -5,7 +5,7 @@ use Rattle.std.specs.Bool.{MatchBool}
 use Rattle.std.specs.BTreeMap.{insert_entry}
 use Rattle.std.specs.Cmp.{nat_eq_equiv}
 use Rattle.std.specs.BTreeMap.Comparable.{le_lt_trans}
-use Rattle.std.specs.Cmp.Lexicographic.{slice_cmp, bytes_decides, nat_list_cmp_total, nat_list_eq_equiv, on_texts}
+use Rattle.std.specs.Cmp.Lexicographic.{slice_cmp, bytes_decides, nat_list_cmp_total, on_texts}
 use Rattle.std.specs.List.{AllByRecursion}
 use Rattle.std.specs.List.Sorted.{IsStrictlySortedBy}
 use Rattle.std.specs.Map.{keys_of, remove_entry}
@@ -14,18 +14,15 @@ use Rattle.std.specs.Ordering.{nat_cmp, is_eq}
 use Rattle.std.specs.declared.cmp.Ordering.TheVariants.{Less}
 use Rattle.std.proofs.lemmas.Bool.{and_parts, eqb-true, eq-eqb, false≢true}
 use Rattle.std.proofs.lemmas.Map.Keys.{sorted_head, sorted_tail}
-use Rattle.std.proofs.lemmas.Map.Text.{is_eq-slice_cmp}
 use Rattle.shared_map.specs.Queries.{IsQuery}
 use Rattle.shared_map.proofs.Changes.{lookup-insert_entry}
 use Rattle.dn_names.specs.Paths.{path_key}
-use Rattle.entry_tree.proofs.NameKeys.{key_cmp, is_key, key_is, same_bytes}
+use Rattle.entry_tree.proofs.NameKeys.{key_cmp, is_key, is_key-bytes_eq, key_is, same_bytes}
 use Rattle.entry_tree.specs.declared.entry.Entry.{Entry}
 use Rattle.entry_tree.specs.State.{entry_at}
 use Rattle.sync_model.specs.Copy.{Stage, slot}
-use Rattle.sync_consumer.specs.Holding.{HeldNames, id_at, is_id, has_path, keeps_name, between, stays, after_stage, Forgets, ForgetsFor, HasLeft, Notes, NotesAll, SetsId, ArePathsApart}
-
-tests_bytes : (path : List ℕ) (key : Vec ℕ Global) → is_key path key ≡ bytes_eq key.items path
-tests_bytes path key = is_eq-slice_cmp path key.items ∙ nat_list_eq_equiv.symm path key.items
+use Rattle.entry_tree.specs.NameIndex.{has_path}
+use Rattle.sync_consumer.specs.Holding.{HeldNames, id_at, is_id, keeps_name, between, stays, after_stage, Forgets, ForgetsFor, HasLeft, Notes, NotesAll, SetsId, ArePathsApart}
 
 -- of two tests that do not both hold either may come first
 swapped : (b t : Bool) (a : ℕ) (found rest : Option ℕ) → (b ≡ true → t ≡ true → ⊥) → cond t (Some a) (cond b found rest) ≡ cond b found (cond t (Some a) rest)
@@ -40,7 +37,7 @@ swapped false false a found rest never = refl
 pub id_inserted : (names : HeldNames) (key : Vec ℕ Global) (uuid : ℕ) (path : List ℕ)
     → id_at (insert_entry key_cmp names key uuid) path ≡ cond (bytes_eq key.items path) (Some uuid) (id_at names path)
 id_inserted names key uuid path =
-    lookup-insert_entry (on_texts (λ (k : Vec ℕ Global). k.items)) key uuid query names ∙ ap (λ b. cond b (Some uuid) (id_at names path)) (tests_bytes path key)
+    lookup-insert_entry (on_texts (λ (k : Vec ℕ Global). k.items)) key uuid query names ∙ ap (λ b. cond b (Some uuid) (id_at names path)) (is_key-bytes_eq path key)
   where
     query : IsQuery key_cmp (λ (k : Vec ℕ Global). slice_cmp nat_cmp path k.items)
     query = record {
@@ -67,7 +64,7 @@ id_removed (e ∷ names) path other up =
         → id_at names other ≡ cond b None (cond (is_key other e.0) (Some e.1) (id_at names other))
     here is below true same = ap (id_at names) (sym (same_bytes path other same) ∙ is) ∙ none_beyond names e.0 below
     here is below false differ =
-        sym (ap (λ b. cond b (Some e.1) (id_at names other)) (tests_bytes other e.0 ∙ ap (λ text. bytes_eq text other) (sym is) ∙ differ))
+        sym (ap (λ b. cond b (Some e.1) (id_at names other)) (is_key-bytes_eq other e.0 ∙ ap (λ text. bytes_eq text other) (sym is) ∙ differ))
 
     by : (b : Bool) → is_key path e.0 ≡ b → AllByRecursion (λ (key : Vec ℕ Global). key_cmp e.0 key ≡ Less) (keys_of names)
         → id_at (remove_entry (is_key path) names) other ≡ cond (bytes_eq path other) None (id_at names other)
@@ -85,6 +82,7 @@ sets_inserted old new key path uuid is inserted other =
     ∙ id_inserted old key uuid other
     ∙ ap (λ text. cond (bytes_eq text other) (Some uuid) (id_at old other)) is
 
+-- a name that is taken away has no identity
 pub sets_removed : (old new : HeldNames) (text path : List ℕ) → text ≡ path → IsStrictlySortedBy key_cmp (keys_of old) → new ≡ remove_entry (is_key text) old → SetsId old new path None
 sets_removed old new text path is up removed other =
     ap (λ (names : HeldNames). id_at names other) removed

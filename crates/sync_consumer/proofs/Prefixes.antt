@@ -8,9 +8,9 @@ use Rattle.std.proofs.lemmas.List.Elements.{filter-append}
 use Rattle.entry_tree.specs.declared.entry.Entry.{Entry}
 use Rattle.entry_tree.specs.State.{ascends, put, is_identified}
 use Rattle.entry_tree.proofs.Identities.{above, above_lower}
-use Rattle.entry_tree.proofs.Putting.{all_higher}
+use Rattle.entry_tree.proofs.Putting.{all_higher, lower}
 use Rattle.sync_model.specs.Copy.{Stage, puts_of, drops_of, effected}
-use Rattle.sync_consumer.specs.Staging.{lower, higher, up_to}
+use Rattle.sync_consumer.specs.Staging.{higher, up_to}
 
 module _ (u : ℕ) where
   -- ---- what changes above the identity leave

@@ -12,7 +12,8 @@ use Rattle.entry_tree.specs.declared.entry.Entry.{Entry}
 use Rattle.entry_tree.specs.State.{found_weight, total_weight, most_entries, most_weight}
 use Rattle.sync_model.specs.Copy.{Stage, slot, staged, puts_of}
 use Rattle.sync_model.specs.Within.{exceeds_limits}
-use Rattle.sync_consumer.specs.Staging.{rises, count_of, entry_staged}
+use Rattle.entry_tree.specs.Touched.{rises}
+use Rattle.sync_consumer.specs.Staging.{count_of, entry_staged}
 use Rattle.sync_consumer.proofs.Keyed.{total, at_slot, total-staged_each}
 use Rattle.sync_consumer.proofs.Stages.{limits, within_limits}
 

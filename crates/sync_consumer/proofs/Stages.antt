@@ -15,7 +15,8 @@ use Rattle.entry_tree.specs.State.{total_weight, most_entries, most_weight}
 use Rattle.sync_model.specs.Copy.{Stage, slot, is_put, staged, puts_of}
 use Rattle.sync_model.specs.Within.{exceeds_limits}
 use Rattle.sync_consumer.specs.declared.stage.StagedChange.{StagedChange}
-use Rattle.sync_consumer.specs.Staging.{rises, IsStage, entry_staged, change_of, changes_kept}
+use Rattle.entry_tree.specs.Touched.{rises}
+use Rattle.sync_consumer.specs.Staging.{IsStage, entry_staged, change_of, changes_kept}
 use Rattle.sync_consumer.proofs.Keyed.{AreOwn, head_own, own-insert, rises-staged_each}
 
 -- the identity of a change

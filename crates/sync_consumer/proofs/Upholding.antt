@@ -157,6 +157,7 @@ pub record IsTaken (before : Copy) (message : Message) (after : Copy) (result : 
   pub committed : CanBeCommitted before after result
   pub kept : IsReadyOn after.held (stage_in after.session)
 
+-- what is said of each answer
 pub all_taken : (result : Taken) (before : Copy) (message : Message) (after : Copy) → Takes before message after result → IsReadyOn before.held (stage_in before.session)
     → IsTaken before message after result
 all_taken result before message after is was =

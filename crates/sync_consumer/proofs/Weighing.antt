@@ -35,10 +35,6 @@ Pairs = List (ℕ × Entry)
 pub nothing_weighed : (entries : Pairs) → entries ≡ [] → IsWeighed entries 0
 nothing_weighed entries none = subst (λ (es : Pairs). IsWeighed es 0) (sym none) (record { own = refl; ordered = refl; weighed = refl; small = omega arith })
 
--- the same entries weigh as much
-pub same_weighed : (entries entries' : Pairs) (weight : ℕ) → entries' ≡ entries → IsWeighed entries weight → IsWeighed entries' weight
-same_weighed entries entries' weight same is = subst (λ (es : Pairs). IsWeighed es weight) (sym same) is
-
 -- ---- what is at an identity
 
 -- a key is at an identity exactly where that is the entry's

@@ -8,11 +8,11 @@ use Rattle.std.proofs.lemmas.List.Folds.{list_all-map}
 use Rattle.ldap_constants.specs.declared.result_codes.TheConstants.{ADMIN_LIMIT_EXCEEDED, INVALID_ATTRIBUTE_SYNTAX}
 use Rattle.schema_rules.specs.declared.attributes.Attribute.{Attribute}
 use Rattle.schema_rules.specs.declared.raw.RawAttribute.{RawAttribute}
-use Rattle.schema_rules.specs.Attributes.{is_of_syntax, kinds_of, joined, values_of, weight_of}
+use Rattle.schema_rules.specs.Attributes.{is_of_syntax, kinds_of, joined, values_of, weight_of, is_given}
 use Rattle.schema_rules.specs.Schema.{type_named, is_operational}
 use Rattle.entry_tree.specs.declared.entry.Entry.{Entry}
 use Rattle.entry_tree.specs.Fitting.{is_within_entry_limit}
-use Rattle.entry_tree.specs.Sound.{is_sound_attribute, is_sound_put}
+use Rattle.entry_tree.specs.Sound.{is_sound_put}
 use Rattle.entry_tree.specs.State.{most_entry_weight}
 use Rattle.entry_tree.proofs.Passing.{list_all-filter}
 use Rattle.sync_wire.specs.Refusals.{and_then, bad_entry}
@@ -65,12 +65,12 @@ joined_free attrs h =
 
 -- ---- the values are of their types' syntax
 
-sound_by : (attrs : List Attribute) → all_free attrs ≡ true → list_all is_of_its_syntax attrs ≡ true → list_all is_sound_attribute attrs ≡ true
+sound_by : (attrs : List Attribute) → all_free attrs ≡ true → list_all is_of_its_syntax attrs ≡ true → list_all is_given attrs ≡ true
 sound_by [] free h = refl
 sound_by (a ∷ attrs) free h =
     let f = and_parts (is_free a.kind) (all_free attrs) free in
     let s = and_parts (is_of_its_syntax a) (list_all is_of_its_syntax attrs) h in
-    and_from (is_sound_attribute a) (list_all is_sound_attribute attrs)
+    and_from (is_given a) (list_all is_given attrs)
     (and_from (is_free a.kind) (list_all (is_of_syntax a.kind) a.values) f.0 s.0) (sound_by attrs f.1 s.1)
 
 -- ---- the entry

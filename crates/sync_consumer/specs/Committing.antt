@@ -9,7 +9,7 @@ use Rattle.entry_tree.specs.declared.entry.Entry.{Entry}
 use Rattle.entry_tree.specs.declared.op.Op.TheVariants as write
 use Rattle.sync_model.specs.Copy as model
 use Rattle.sync_consumer.specs.Holding.{IsConsumerContent}
-use Rattle.sync_consumer.specs.Staging.{rises}
+use Rattle.entry_tree.specs.Touched.{rises}
 use Rattle.sync_consumer.specs.Taking.{AreFit}
 use Rattle.sync_consumer.specs.declared.commit.Commit.{Commit}
 use Rattle.sync_consumer.specs.declared.consumer.Taken.{Taken}

@@ -1,5 +1,5 @@
 -- Entries that are held, what they weigh, and the identities of their names.
-use Rattle.std.specs.Prelude.{◌≡◌, ◌<◌, ◌^◌, ℕ, Bool, true, false, ◌==◌, cond, is_some, bytes_eq, filter_map, map, option_map, IfSome, List, Option, Some, None, Vec}
+use Rattle.std.specs.Prelude.{◌≡◌, ◌<◌, ◌^◌, ℕ, Bool, true, false, ◌==◌, cond, is_some, bytes_eq, filter_map, map, option_map, List, Option, Some, None, Vec}
 use Rattle.std.proofs.Common.{Global, ◌⊎◌}
 use Rattle.std.specs.Bool.{MatchBool}
 use Rattle.std.specs.BTreeMap.{is_at}
@@ -7,8 +7,9 @@ use Rattle.std.specs.Cmp.Lexicographic.{slice_cmp}
 use Rattle.std.specs.Map.{keys_of, values_of, lookup}
 use Rattle.std.specs.Option.{unwrap_or}
 use Rattle.std.specs.Ordering.{nat_cmp}
-use Rattle.dn_names.specs.Paths.{path_key, HasPath}
+use Rattle.dn_names.specs.Paths.{path_key}
 use Rattle.entry_tree.specs.declared.entry.Entry.{Entry}
+use Rattle.entry_tree.specs.NameIndex.{HasPathKey, has_path}
 use Rattle.entry_tree.specs.State.{ascends, entry_at, total_weight}
 use Rattle.entry_tree.specs.Touched.{identities}
 use Rattle.sync_model.specs.Copy.{Stage, slot}
@@ -60,15 +61,6 @@ abbrev pub is_id : Option ℕ → ℕ → Bool
 is_id None uuid = false
 is_id (Some other) uuid = other == uuid
 
--- there is an entry, whose name has the path key
-abbrev pub has_path : List ℕ → Option Entry → Bool
-has_path path None = false
-has_path path (Some e) = bytes_eq (path_key e.dn) path
-
--- where there is an entry, its name has a path key
-abbrev pub IsPathed : Option Entry → Type 0
-IsPathed found = IfSome found (λ (e : Entry). HasPath e.dn)
-
 -- an identity stands at a path key exactly where its entry has a name of that path key
 abbrev pub Notes : HeldNames → (ℕ → Option Entry) → Type 0
 Notes names entry_of =
@@ -77,7 +69,7 @@ Notes names entry_of =
 -- the names of these entries, all of which have path keys
 pub record IsIndexOf (names : HeldNames) (entries : List Entry) : Type 0 where
   pub exact : Notes names (λ uuid. entry_at entries uuid)
-  pub pathed : (uuid : ℕ) → IsPathed (entry_at entries uuid)
+  pub pathed : (uuid : ℕ) → HasPathKey (entry_at entries uuid)
 
 -- entries that may be held, with their names
 pub record IsEntryMap (entries : List Entry) (names : HeldNames) : Type 0 where

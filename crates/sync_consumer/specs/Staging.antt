@@ -1,10 +1,11 @@
 -- Stages, as they are kept.
-use Rattle.std.specs.Prelude.{◌≡◌, ℕ, Bool, true, false, ◌&&◌, nat_lt, nat_le, List, [], ◌∷◌, length, map, filter, Option, Some, None}
+use Rattle.std.specs.Prelude.{◌≡◌, ℕ, Bool, true, false, nat_lt, nat_le, List, [], ◌∷◌, length, map, filter, Option, Some, None}
 use Rattle.std.proofs.Common.{Bor}
 use Rattle.std.specs.List.{list_all}
 use Rattle.std.specs.Option.{option_and_then}
 use Rattle.std.specs.Map.{keys_of, values_of}
 use Rattle.entry_tree.specs.State.{exceeds_limits, total_weight}
+use Rattle.entry_tree.specs.Touched.{rises}
 use Rattle.entry_tree.specs.declared.entry.Entry.{Entry}
 use Rattle.sync_model.specs.Copy.{Stage, puts_of, slot}
 use Rattle.sync_consumer.specs.declared.stage.StagedChange.{StagedChange}
@@ -36,18 +37,9 @@ entry_staged stage uuid = option_and_then (λ entry. entry) (slot stage uuid)
 
 -- ---- order
 
--- each number is below those that follow
-abbrev pub rises : List ℕ → Bool
-rises [] = true
-rises (number ∷ numbers) = list_all (nat_lt number) numbers && rises numbers
-
 -- each of the entries is above the identity
 abbrev pub is_above : ℕ → List Entry → Bool
 is_above uuid entries = list_all (λ entry. nat_lt uuid entry.uuid) entries
-
--- the entries below the identity
-abbrev pub lower : ℕ → List Entry → List Entry
-lower uuid entries = filter (λ entry. nat_lt entry.uuid uuid) entries
 
 -- the entries above the identity
 abbrev pub higher : ℕ → List Entry → List Entry

@@ -9,6 +9,7 @@ use Rattle.entry_tree.specs.declared.commit.CommitRefusal.TheVariants as opposin
 use Rattle.entry_tree.specs.declared.entry.Entry.{Entry}
 use Rattle.ldap_messages.specs.declared.message.Message.{Message}
 use Rattle.ldap_messages.specs.Whole.{MessageValue}
+use Rattle.sync_messages.specs.Request as control
 use Rattle.sync_messages.specs.declared.request.Mode.{Mode}
 use Rattle.sync_messages.specs.declared.request.SyncRequest.{SyncRequest}
 use Rattle.sync_model.specs.Message.{SyncMessage}
@@ -17,7 +18,7 @@ use Rattle.sync_model.specs.Copy.{Answer as answer, Fault as fault}
 use Rattle.sync_model.specs.Within.{taken_within}
 use Rattle.sync_wire.specs.Decoding.{said}
 use Rattle.sync_wire.specs.Kind.{tag_of}
-use Rattle.sync_wire.specs.Requesting.{search_request}
+use Rattle.sync_wire.specs.Requesting.{persists, search_request}
 use Rattle.sync_wire.specs.declared.fault.DecodeFault.{DecodeFault}
 use Rattle.sync_wire.specs.declared.fault.DecodeFault.TheVariants as decoding
 use Rattle.sync_consumer.specs.declared.commit.Commit.{Commit}
@@ -58,6 +59,17 @@ asked_of following mode =
 abbrev pub request_of : ConsumerState → ℕ → Mode → MessageValue
 request_of following id mode =
     search_request following.spec id mode following.reload following.copy.cookie
+
+-- the value of the control of a request is read again as what is asked
+abbrev pub IsReadAgain : ConsumerState → Mode → Type 0
+IsReadAgain following mode =
+    control.request_of (control.request_octets (asked_of following mode))
+    ≡ Ok (asked_of following mode)
+
+-- the search that was asked for with this message ID has begun
+abbrev pub requesting : ConsumerState → ℕ → Mode → ConsumerState
+requesting following id mode =
+    record following { copy = model.asked id (persists mode) following.copy }
 
 -- ---- what is reported
 

@@ -6,11 +6,9 @@ ghost use Rattle.entry_tree.specs.Selection.{search_of};
 ghost use Rattle.ldap_messages.specs.Whole.{message_value};
 ghost use Rattle.sync_model.specs.Copy as model;
 ghost use Rattle.sync_wire.specs.Kind as kind;
-ghost use Rattle.sync_wire.specs.Requesting.{persists};
 ghost use Rattle.sync_consumer.specs.declared.consumer.Taken.TheVariants.{Fault};
 ghost use Rattle.sync_consumer.specs.declared.fault.PeerFault.TheVariants.{OutOfPlace};
 ghost use Rattle.sync_consumer.specs.SyncSession.{session_of, copy_of, copy_with};
-ghost use Rattle.sync_messages.specs.Request.{request_of, request_octets};
 ghost use Rattle.sync_consumer.specs.Committing.{HaveUniqueNames, CanBeCommitted};
 ghost use Rattle.sync_consumer.specs.Taking as taking;
 
@@ -116,11 +114,8 @@ impl Consumer {
         ensures message { IfOk result
             (λ message. message_value message ≡ taking.request_of self.old id mode) }
         // The value of its control is read again as what is asked.
-        ensures read_again { IfOk result (λ message.
-            request_of (request_octets (taking.asked_of self.old mode))
-            ≡ Ok (taking.asked_of self.old mode)) }
-        ensures ok { OnOk result (self.new
-            ≡ record self.old { copy = model.asked id (persists mode) self.old.copy }) }
+        ensures read_again { IfOk result (λ message. taking.IsReadAgain self.old mode) }
+        ensures ok { OnOk result (self.new ≡ taking.requesting self.old id mode) }
         ensures err { OnErr result (self.new ≡ self.old) }
     {
         let alloc = self.held.entries.allocator();

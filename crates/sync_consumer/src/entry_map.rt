@@ -10,7 +10,7 @@ ghost use Rattle.sync_consumer.specs.SyncSession.{RefusesBy};
 ghost use Rattle.sync_consumer.specs.Staging.{higher, up_to};
 
 use crate::fault::Refusal;
-use crate::names::{Names, names_after};
+use crate::names::{IdentitiesByName, names_after};
 use crate::stage::{MOST_ENTRIES, MOST_WEIGHT, Stage};
 use crate::weighed::{WeighedEntries, entries_with};
 use entry_tree::{Entry, check_content};
@@ -26,7 +26,7 @@ use std::marker::Model;
 pub struct EntryMap {
     alloc: Global,
     entries: WeighedEntries,
-    names: Names,
+    names: IdentitiesByName,
 }
 
 impl Model for EntryMap {

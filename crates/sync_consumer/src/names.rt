@@ -6,8 +6,10 @@ ghost use Rattle.dn_names.specs.Paths.{path_key, HasPath};
 ghost use Rattle.entry_tree.specs.declared.entry.Entry.{Entry};
 ghost use Rattle.entry_tree.specs.State.{ascends, entry_at, same_named};
 ghost use Rattle.sync_model.specs.Copy.{effected};
-ghost use Rattle.sync_consumer.specs.Holding.{id_at, keeps_name, stays, Forgets, ForgetsFor, IsIndexOf, IsPathed, Notes, NotesAll, SetsId};
-ghost use Rattle.sync_consumer.specs.Staging.{change_of, changes_in, entry_staged, rises};
+ghost use Rattle.entry_tree.specs.NameIndex.{HasPathKey};
+ghost use Rattle.sync_consumer.specs.Holding.{id_at, keeps_name, stays, Forgets, ForgetsFor, IsIndexOf, Notes, NotesAll, SetsId};
+ghost use Rattle.entry_tree.specs.Touched.{rises};
+ghost use Rattle.sync_consumer.specs.Staging.{change_of, changes_in, entry_staged};
 
 use crate::stage::StagedChange;
 use crate::weighed::WeighedEntries;
@@ -17,14 +19,14 @@ use ldap_ber::NoMemory;
 use shared_map::SharedMap;
 
 /// The identity of the entry at each path key.
-pub(crate) type Names = SharedMap<Vec<u8>, u128>;
+pub(crate) type IdentitiesByName = SharedMap<Vec<u8>, u128>;
 
 /// The names that there are after the changes, and whether no two entries have one then.
 pub(crate) fn names_after(
-    names: &Names,
+    names: &IdentitiesByName,
     held: &WeighedEntries,
     changes: &[&StagedChange],
-) -> Result<(Names, bool), NoMemory>
+) -> Result<(IdentitiesByName, bool), NoMemory>
     requires index { IsIndexOf names.now held.now }
     requires ascends { ascends held.now ≡ true }
     requires ordered { rises (keys_of (changes_in changes.now)) ≡ true }
@@ -42,7 +44,7 @@ pub(crate) fn names_after(
 
 /// Takes the names away that the entries have of which a change is, but for those that stay.
 fn forget_each(
-    names: &mut Names,
+    names: &mut IdentitiesByName,
     held: &WeighedEntries,
     changes: &[&StagedChange],
 ) -> Result<(), NoMemory>
@@ -60,7 +62,7 @@ fn forget_each(
 
 /// Takes the name away that the identity of the change has, unless the change keeps it.
 fn forget_for(
-    names: &mut Names,
+    names: &mut IdentitiesByName,
     held: &WeighedEntries,
     change: &StagedChange,
 ) -> Result<(), NoMemory>
@@ -76,7 +78,7 @@ fn forget_for(
 fn keeps_name(held: &WeighedEntries, change: &StagedChange) -> bool
     ensures value { result
         ≡ keeps_name (entry_at held.now (change_of change.now).0) (change_of change.now).1 }
-    ensures pathed { IsTrue result → IsPathed (change_of change.now).1 }
+    ensures pathed { IsTrue result → HasPathKey (change_of change.now).1 }
 {
     match change {
         StagedChange::AddOrModify(entry) => has_name_of(held, entry),
@@ -104,7 +106,11 @@ fn has_path_key(name: &Dn, path: &[u8]) -> bool
 }
 
 /// Takes the name away that the entry of the identity has.
-fn forget_at(names: &mut Names, held: &WeighedEntries, uuid: u128) -> Result<(), NoMemory>
+fn forget_at(
+    names: &mut IdentitiesByName,
+    held: &WeighedEntries,
+    uuid: u128,
+) -> Result<(), NoMemory>
     ensures { OnOk result (Forgets names.old names.new (entry_at held.now uuid)) }
 {
     match held.get(uuid) {
@@ -115,7 +121,7 @@ fn forget_at(names: &mut Names, held: &WeighedEntries, uuid: u128) -> Result<(),
 
 /// Takes the name of the entry away.
 #[tactic(auto, using(crate::proofs::Noting::sets_empty))]
-fn forget(names: &mut Names, entry: &Entry) -> Result<(), NoMemory>
+fn forget(names: &mut IdentitiesByName, entry: &Entry) -> Result<(), NoMemory>
     ensures { OnOk result (SetsId names.old names.new (path_key entry.now.dn) None) }
 {
     if names.len() == 0 {
@@ -128,14 +134,14 @@ fn forget(names: &mut Names, entry: &Entry) -> Result<(), NoMemory>
 /// Notes the names of the entries that are put, but for those that stay. Whether none of them was
 /// there.
 fn note_each(
-    names: &mut Names,
+    names: &mut IdentitiesByName,
     held: &WeighedEntries,
     changes: &[&StagedChange],
 ) -> Result<bool, NoMemory>
     requires { rises (keys_of (changes_in changes.now)) ≡ true }
     ensures noted { IfOk result (NotesAll held.now names.old names.new (changes_in changes.now)) }
     ensures pathed { OnOk result
-        ((uuid : ℕ) → IsPathed (entry_staged (changes_in changes.now) uuid)) }
+        ((uuid : ℕ) → HasPathKey (entry_staged (changes_in changes.now) uuid)) }
 {
     let mut has_unique_names = true;
     let mut left = changes.len();
@@ -150,13 +156,13 @@ fn note_each(
 /// Notes the name of the entry that the change puts, if any, unless its identity has it. Whether it
 /// was not there.
 fn note_for(
-    names: &mut Names,
+    names: &mut IdentitiesByName,
     held: &WeighedEntries,
     change: &StagedChange,
 ) -> Result<bool, NoMemory>
     ensures noted { IfOk result
         (NotesAll held.now names.old names.new (change_of change.now ∷ [])) }
-    ensures pathed { OnOk result (IsPathed (change_of change.now).1) }
+    ensures pathed { OnOk result (HasPathKey (change_of change.now).1) }
 {
     if keeps_name(held, change) {
         return Ok(true);
@@ -165,11 +171,11 @@ fn note_for(
 }
 
 /// Notes the name of the entry that the change puts, if any. Whether it was not there.
-fn note_change(names: &mut Names, change: &StagedChange) -> Result<bool, NoMemory>
+fn note_change(names: &mut IdentitiesByName, change: &StagedChange) -> Result<bool, NoMemory>
     ensures noted { (entries : List Entry)
         → keeps_name (entry_at entries (change_of change.now).0) (change_of change.now).1 ≡ false
         → IfOk result (NotesAll entries names.old names.new (change_of change.now ∷ [])) }
-    ensures pathed { OnOk result (IsPathed (change_of change.now).1) }
+    ensures pathed { OnOk result (HasPathKey (change_of change.now).1) }
 {
     match change {
         StagedChange::AddOrModify(entry) => note(names, entry),
@@ -178,7 +184,7 @@ fn note_change(names: &mut Names, change: &StagedChange) -> Result<bool, NoMemor
 }
 
 /// Notes the name of the entry. Whether it was not there.
-fn note(names: &mut Names, entry: &Entry) -> Result<bool, NoMemory>
+fn note(names: &mut IdentitiesByName, entry: &Entry) -> Result<bool, NoMemory>
     ensures free { IfOk result (λ is_free.
         is_free ≡ is_none (id_at names.old (path_key entry.now.dn))) }
     ensures noted { OnOk result

@@ -8,7 +8,8 @@ ghost use Rattle.sync_model.specs.Copy as model;
 ghost use Rattle.sync_model.specs.Copy.{effected, puts_of, staged};
 ghost use Rattle.sync_model.specs.Within.{exceeds_limits};
 ghost use Rattle.sync_consumer.specs.Staging as spec;
-ghost use Rattle.sync_consumer.specs.Staging.{change_of, changes_in, entry_staged, rises};
+ghost use Rattle.entry_tree.specs.Touched.{rises};
+ghost use Rattle.sync_consumer.specs.Staging.{change_of, changes_in, entry_staged};
 
 use crate::weighed::WeighedEntries;
 use entry_tree::Entry;

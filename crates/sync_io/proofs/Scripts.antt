@@ -22,12 +22,14 @@ any-quiet (Give (byte ∷ bytes) ∷ steps) = any-quiet steps
 any-quiet (Quiet ∷ steps) = refl
 any-quiet (Fail ∷ steps) = any-quiet steps
 
+-- steps that can be played are left, and are quiet where one of all is
 pub ArePlayable-filter : (steps : List Step) → ArePlayable (filter is_played steps) (list_any is_quiet steps)
 ArePlayable-filter steps = record {
   played = all-played steps;
   quiet = λ any. rw (← any-quiet steps) any;
 }
 
+-- what is left of a gift stands before the bytes of the other steps
 pub bytes_of-with_gift : (gift : List ℕ) (steps : List Step) → bytes_of (with_gift gift steps) ≡ gift ++ bytes_of steps
 bytes_of-with_gift [] steps = refl
 bytes_of-with_gift (byte ∷ bytes) steps = refl

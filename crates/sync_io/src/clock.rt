@@ -10,6 +10,7 @@ pub trait Clock: Copy + Send {
 /// A clock that stands still.
 #[derive(Clone, Copy, Debug, PartialEq, Eq)]
 pub struct FixedClock {
+    /// Microseconds since the start of 1970.
     pub micros: u64,
 }
 

@@ -1,4 +1,4 @@
-//! A sink that fails where it was reported to.
+//! A sink that fails where it is asked to.
 ghost use Rattle.std.specs.Prelude.{◌≡◌, ◌≢◌, ◌<◌, ◌≤◌, [], Some, None, IsTrue, not, if◌then◌else◌, length};
 ghost use Rattle.std.specs.Bool.{OnTrue, OnFalse};
 ghost use Rattle.sync_io.specs.Faults.{one_more, CountHasRisen};

@@ -1,4 +1,4 @@
-//! A source that fails and waits where it was reported to.
+//! A source that fails and waits where it is asked to.
 ghost use Rattle.std.specs.Prelude.{◌≡◌, ◌≢◌, ◌<◌, ◌≤◌, Some, None, IsTrue, length, filter};
 ghost use Rattle.std.specs.List.{list_any};
 ghost use Rattle.sync_io.specs.declared.source.Piece.TheVariants.{Quiet};

@@ -9,10 +9,11 @@
 //! - [`MemorySource`] and [`MemorySink`] hold their bytes in memory, and so report them, as
 //!   [`MemoryShelf`], [`MemoryNet`] and [`MemoryDial`] do. [`FixedClock`] and [`FixedWords`] give
 //!   what they were made of.
-//! - [`FaultySource`] and [`FaultySink`] report their bytes too, and fail where they were reported
-//!   to. [`MemoryLink`] is one of each.
+//! - [`FaultySource`] and [`FaultySink`] report their bytes too, and fail where they are asked to.
+//!   [`MemoryLink`] is one of each.
 #![tactic(auto)]
 
+mod buffers;
 mod clock;
 mod dial;
 mod drawn_words;
@@ -29,6 +30,7 @@ mod memory_sink;
 mod memory_source;
 mod net;
 mod reading;
+mod retries;
 mod shelf;
 mod sink;
 mod source;
@@ -39,6 +41,7 @@ mod tcp_net;
 mod words;
 mod writing;
 
+pub use buffers::keep_rest;
 pub use clock::{Clock, FixedClock};
 pub use dial::{Dial, NetFault};
 pub use drawn_words::DrawnWords;

@@ -4,9 +4,11 @@ ghost use Rattle.sync_io.specs.declared.dial.NetFault.TheVariants.{Failed};
 ghost use Rattle.sync_io.specs.Faults.{CountHasRisen};
 
 use crate::faults::count_fault;
+use crate::retries::Retries;
 use crate::{Dial, NetFault, Sink, Source, TcpLink};
 use std::io::ErrorKind;
 use std::net::{TcpListener, TcpStream};
+use std::time::Clock;
 use std::{io, net};
 
 /// What an error of the system is reported as. It counts a fault, but not where out of memory.
@@ -23,28 +25,41 @@ pub(crate) fn net_fault(error: io::Error, faults: &mut u64) -> NetFault
 }
 
 /// A dialler over TCP. An address is that of a host and a port, as `localhost:389`. It reports
-/// nothing of what it was asked.
-pub struct TcpDial<'a, R: net::Net<Listener = TcpListener, Stream = TcpStream>> {
+/// nothing of what it was asked. Where it is asked again, it does so at once, and then after 1, 2,
+/// 4 .. 30 seconds, until a link has lasted 30 seconds; it says on standard error when there is no
+/// link, and when there is one again.
+pub struct TcpDial<'a, R: net::Net<Listener = TcpListener, Stream = TcpStream> + Eprint + Clock> {
     rt: &'a R,
+    retries: Retries,
     faults: u64,
 }
 
-impl<R: net::Net<Listener = TcpListener, Stream = TcpStream>> Drop for TcpDial<'_, R> {
+impl<R: net::Net<Listener = TcpListener, Stream = TcpStream> + Eprint + Clock> Drop
+    for TcpDial<'_, R> {
     fn drop(self) {
-        let Self { rt: _, faults: _ } = self;
+        let Self {
+            rt: _,
+            retries: _,
+            faults: _,
+        } = self;
     }
 }
 
-impl<'a, R: net::Net<Listener = TcpListener, Stream = TcpStream>> TcpDial<'a, R> {
+impl<'a, R: net::Net<Listener = TcpListener, Stream = TcpStream> + Eprint + Clock> TcpDial<'a, R> {
     /// A dialler that was asked nothing yet.
     pub fn new(rt: &'a R) -> TcpDial<'a, R>
         ensures faults { result.faults ≡ 0 }
     {
-        TcpDial { rt, faults: 0 }
+        TcpDial {
+            rt,
+            retries: Retries::new(),
+            faults: 0,
+        }
     }
 }
 
-impl<'a, R: net::Net<Listener = TcpListener, Stream = TcpStream>> Dial for TcpDial<'a, R> {
+impl<'a, R: net::Net<Listener = TcpListener, Stream = TcpStream> + Eprint + Clock> Dial
+    for TcpDial<'a, R> {
     type Link = TcpLink;
 
     ghost dialled = { λ _. None };
@@ -56,13 +71,18 @@ impl<'a, R: net::Net<Listener = TcpListener, Stream = TcpStream>> Dial for TcpDi
     }
 
     fn connect(&mut self, address: &str) -> Result<TcpLink, NetFault> {
+        self.retries.pause(self.rt, address);
         match TcpStream::connect(self.rt, address) {
-            Ok(stream) => Ok(TcpLink::new(stream)),
+            Ok(stream) => {
+                self.retries.come(self.rt, address);
+                Ok(TcpLink::new(stream))
+            }
             Err(error) => Err(net_fault(error, &mut self.faults)),
         }
     }
 
     fn hang_up(&mut self, link: TcpLink) {
+        self.retries.hang_up(self.rt);
         if link.read_faults() > 0 || link.write_faults() > 0 {
             count_fault(&mut self.faults);
         }

@@ -6,23 +6,30 @@ use crate::tcp_dial::net_fault;
 use crate::{Dial, Net, NetFault, TcpDial, TcpLink};
 use std::io::ErrorKind;
 use std::net::{TcpListener, TcpStream};
+use std::time::Clock;
 use std::{io, net};
 
 /// A net over TCP. An address is that of a host and a port, as `localhost:389`. It reports nothing
 /// of what it was asked. Where it listens it says on standard error.
-pub struct TcpNet<'a, R: net::Net<Listener = TcpListener, Stream = TcpStream> + Eprint + Sync> {
+pub struct TcpNet<
+    'a,
+    R: net::Net<Listener = TcpListener, Stream = TcpStream> + Eprint + Sync + Clock,
+> {
     rt: &'a R,
     faults: u64,
 }
 
-impl<R: net::Net<Listener = TcpListener, Stream = TcpStream> + Eprint + Sync> Drop
+impl<R: net::Net<Listener = TcpListener, Stream = TcpStream> + Eprint + Sync + Clock> Drop
     for TcpNet<'_, R> {
     fn drop(self) {
         let Self { rt: _, faults: _ } = self;
     }
 }
 
-impl<'a, R: net::Net<Listener = TcpListener, Stream = TcpStream> + Eprint + Sync> TcpNet<'a, R> {
+impl<'a, R: net::Net<Listener = TcpListener, Stream = TcpStream> + Eprint + Sync + Clock> TcpNet<
+    'a,
+    R,
+> {
     /// A net that was asked nothing yet.
     pub fn new(rt: &'a R) -> TcpNet<'a, R>
         ensures faults { result.faults ≡ 0 }
@@ -58,7 +65,7 @@ fn is_passed_over(error: &io::Error) -> bool {
     )
 }
 
-impl<'a, R: net::Net<Listener = TcpListener, Stream = TcpStream> + Eprint + Sync> Net
+impl<'a, R: net::Net<Listener = TcpListener, Stream = TcpStream> + Eprint + Sync + Clock> Net
     for TcpNet<'a, R> {
     type Door = TcpListener;
 

@@ -26,16 +26,19 @@ short_at place = record { kind = Short; at = place }
 at_prefix : {X : Type 0} (prefix : List ℕ) (read : Result X SyncFault) → read ≡ Err (Ber (fault Short (length prefix) prefix)) → read ≡ Err (Ber (short_at 0))
 at_prefix prefix read h = h ∙ ap (λ (place : ℕ). Err (Ber (short_at place))) (omega arith)
 
+-- of the value of a Sync Request control
 pub request_cut : (prefix more : List ℕ) (request : SyncRequest) → RequestForm (prefix ++ more) request [] → more ≢ [] → request_of prefix ≡ Err (Ber (short_at 0))
 unfolding RequestForm request_of
 request_cut prefix more request h some =
     at_prefix prefix _ (rw (sequence_cut Ber 48 48 (both_at mode_at (both_at cookie_at (flag_at false))) (length prefix) prefix more h.0 h.2 some) refl)
 
+-- of the value of a Sync State control
 pub state_cut : (prefix more : List ℕ) (state : SyncState) → StateForm (prefix ++ more) state [] → more ≢ [] → state_of prefix ≡ Err (Ber (short_at 0))
 unfolding StateForm state_of
 state_cut prefix more state h some =
     at_prefix prefix _ (rw (sequence_cut Ber 48 48 (both_at kind_at (both_at uuid_at cookie_at)) (length prefix) prefix more h.0 h.2 some) refl)
 
+-- of the value of a Sync Done control
 pub done_cut : (prefix more : List ℕ) (done : SyncDone) → DoneForm (prefix ++ more) done [] → more ≢ [] → done_of prefix ≡ Err (Ber (short_at 0))
 unfolding DoneForm done_of
 done_cut prefix more done h some =
@@ -61,6 +64,7 @@ begun bytes (RefreshDelete c b) h = (161, h.0, h.2)
 begun bytes (RefreshPresent c b) h = (162, h.0, h.2)
 begun bytes (IdSet c b ids) h = (163, h.0, h.2)
 
+-- of the value of a Sync Info message
 pub info_cut : (prefix more : List ℕ) (info : SyncInfo) → InfoForm (prefix ++ more) info [] → more ≢ [] → info_of prefix ≡ Err (Ber (short_at 0))
 unfolding info_of
 info_cut prefix more info h some =

@@ -25,10 +25,12 @@ done_read : (bytes : List ℕ) (done : SyncDone) → DoneForm bytes done [] → 
 unfolding done_of
 done_read bytes done h = whole_only Ber DoneForm done_at done_exact bytes done h
 
+-- bytes that were read spell the value
 pub done_found : (result : Result SyncDone SyncFault) (bytes : List ℕ) → Gives SyncFails (λ x. Ok x) result (done_of bytes) → IfOk result (λ done. DoneForm bytes done [])
 unfolding done_of
 done_found result bytes g = if_found DoneForm bytes result (done_of bytes) g (λ done h. whole_found Ber DoneForm done_at done_exact bytes done h)
 
+-- bytes that spell a value are read as it
 pub done_only : (result : Result SyncDone SyncFault) (bytes : List ℕ) (done : SyncDone) → Gives SyncFails (λ x. Ok x) result (done_of bytes) → DoneForm bytes done [] → Gives SyncFails (λ x. Ok x) result (Ok done)
 done_only result bytes done g h = only_this result (done_of bytes) done g (done_read bytes done h)
 
@@ -39,6 +41,7 @@ canonical done small =
     (made_spelled done_parts _ _ _ Anything (sequence_spelled 48 (Both CookieForm (FlagWithDefault false)) (refresh_octets false) _ _ (omega arith) (refresh_spelled false) (none_next 1, none_next 4)))
     tt done (tt, tt) small
 
+-- the canonical octets of a value spell it
 pub done_spelled : {E : Type 0} (result : Result (List ℕ) E) (done : SyncDone) → IfOk result (λ o. o ≡ done_octets done) → IfOk result IsSmall → IfOk result (λ o. DoneForm o done [])
 done_spelled result done is small = if_written result (done_octets done) (λ o. DoneForm o done []) is small (canonical done)
 

@@ -78,10 +78,12 @@ info_read : (bytes : List ℕ) (info : SyncInfo) → InfoForm bytes info [] → 
 unfolding info_of
 info_read bytes info h = whole_only Ber InfoForm info_at info_exact bytes info h
 
+-- bytes that were read spell the value
 pub info_found : (result : Result SyncInfo SyncFault) (bytes : List ℕ) → Gives SyncFails (λ x. Ok x) result (info_of bytes) → IfOk result (λ info. InfoForm bytes info [])
 unfolding info_of
 info_found result bytes g = if_found InfoForm bytes result (info_of bytes) g (λ info h. whole_found Ber InfoForm info_at info_exact bytes info h)
 
+-- bytes that spell a value are read as it
 pub info_only : (result : Result SyncInfo SyncFault) (bytes : List ℕ) (info : SyncInfo) → Gives SyncFails (λ x. Ok x) result (info_of bytes) → InfoForm bytes info [] → Gives SyncFails (λ x. Ok x) result (Ok info)
 info_only result bytes info g h = only_this result (info_of bytes) info g (info_read bytes info h)
 
@@ -124,6 +126,7 @@ canonical (IdSet c b ids) in_range small =
     (sequence_spelled 163 (Both CookieForm (Both (FlagWithDefault false) (ListOf 49 UuidForm))) set_body _ _ (omega arith) set_body_spelled tt)
     tt (c, (b, ids)) (tt, (tt, in_range)) small
 
+-- the canonical octets of a value spell it
 pub info_spelled : {E : Type 0} (result : Result (List ℕ) E) (info : SyncInfo) → IfOk result (λ o. o ≡ info_octets info) → IfOk result IsSmall → IfOk result (λ o. IsInRange info) → IfOk result (λ o. InfoForm o info [])
 info_spelled result info is small in_range = if_written_soundly result (info_octets info) (IsInRange info) (λ o. InfoForm o info []) is small in_range (canonical info)
 

@@ -63,10 +63,12 @@ request_read : (bytes : List ℕ) (request : SyncRequest) → RequestForm bytes 
 unfolding request_of
 request_read bytes request h = whole_only Ber RequestForm request_at request_exact bytes request h
 
+-- bytes that were read spell the value
 pub request_found : (result : Result SyncRequest SyncFault) (bytes : List ℕ) → Gives SyncFails (λ x. Ok x) result (request_of bytes) → IfOk result (λ request. RequestForm bytes request [])
 unfolding request_of
 request_found result bytes g = if_found RequestForm bytes result (request_of bytes) g (λ request h. whole_found Ber RequestForm request_at request_exact bytes request h)
 
+-- bytes that spell a value are read as it
 pub request_only : (result : Result SyncRequest SyncFault) (bytes : List ℕ) (request : SyncRequest) → Gives SyncFails (λ x. Ok x) result (request_of bytes) → RequestForm bytes request [] → Gives SyncFails (λ x. Ok x) result (Ok request)
 request_only result bytes request g h = only_this result (request_of bytes) request g (request_read bytes request h)
 
@@ -84,8 +86,10 @@ canonical request small =
     (made_spelled request_parts _ _ _ Anything (sequence_spelled 48 (Both ModeForm (Both CookieForm (FlagWithDefault false))) body _ _ (omega arith) body_spelled (none_next 1, none_next 4)))
     tt request (tt, (tt, tt)) small
 
+-- the canonical octets of a value spell it
 pub request_spelled : {E : Type 0} (result : Result (List ℕ) E) (request : SyncRequest) → IfOk result (λ o. o ≡ request_octets request) → IfOk result IsSmall → IfOk result (λ o. RequestForm o request [])
 request_spelled result request is small = if_written result (request_octets request) (λ o. RequestForm o request []) is small (canonical request)
 
+-- so they are read as it again
 pub request_read_again : {E : Type 0} (result : Result (List ℕ) E) (request : SyncRequest) → IfOk result (λ o. o ≡ request_octets request) → IfOk result IsSmall → IfOk result (λ o. request_of o ≡ Ok request)
 request_read_again result request is small = if_written result (request_octets request) (λ o. request_of o ≡ Ok request) is small (λ s. request_read (request_octets request) request (canonical request s))

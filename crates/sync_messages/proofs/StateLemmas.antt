@@ -74,10 +74,12 @@ state_read : (bytes : List ℕ) (state : SyncState) → StateForm bytes state []
 unfolding state_of
 state_read bytes state h = whole_only Ber StateForm state_at state_exact bytes state h
 
+-- bytes that were read spell the value
 pub state_found : (result : Result SyncState SyncFault) (bytes : List ℕ) → Gives SyncFails (λ x. Ok x) result (state_of bytes) → IfOk result (λ state. StateForm bytes state [])
 unfolding state_of
 state_found result bytes g = if_found StateForm bytes result (state_of bytes) g (λ state h. whole_found Ber StateForm state_at state_exact bytes state h)
 
+-- bytes that spell a value are read as it
 pub state_only : (result : Result SyncState SyncFault) (bytes : List ℕ) (state : SyncState) → Gives SyncFails (λ x. Ok x) result (state_of bytes) → StateForm bytes state [] → Gives SyncFails (λ x. Ok x) result (Ok state)
 state_only result bytes state g h = only_this result (state_of bytes) state g (state_read bytes state h)
 
@@ -101,6 +103,7 @@ canonical state in_range small =
     (made_spelled state_parts _ _ _ Anything (sequence_spelled 48 (Both KindForm (Both UuidForm CookieForm)) body _ _ (omega arith) body_spelled (none_next 4)))
     tt state (tt, (in_range, tt)) small
 
+-- the canonical octets of a value spell it
 pub state_spelled : {E : Type 0} (result : Result (List ℕ) E) (state : SyncState) → IfOk result (λ o. o ≡ state_octets state) → IfOk result IsSmall → IfOk result (λ o. state.uuid < 2 ^ 128) → IfOk result (λ o. StateForm o state [])
 state_spelled result state is small in_range = if_written_soundly result (state_octets state) (state.uuid < 2 ^ 128) (λ o. StateForm o state []) is small in_range (canonical state)
 

@@ -30,6 +30,7 @@ from_be_bytes-to_be_bytes_16 n fits =
 
 -- ---- read
 
+-- the reading of an octet string is exact
 pub octet_string_exact : (tag : ℕ) → Exact (OctetString tag) (octet_string_at tag)
 octet_string_exact tag = reworded_exact Ber (OctetString tag) (octets_at tag) (octets_exact tag)
 
@@ -41,9 +42,11 @@ uuid_there octets id h =
 uuid_back : (octets : List ℕ) (id : ℕ) → IsUuid octets id → uuid_of octets ≡ Ok id
 uuid_back octets id h = rw (eq-eqb (length octets) 16 h.0, h.1) refl
 
+-- so is that of an identity
 pub uuid_exact : Exact UuidForm uuid_at
 uuid_exact = meaning_exact IsUuid (λ at octets. uuid_of octets) (OctetString 4) _ (λ at. uuid_there) (λ at. uuid_back) (octet_string_exact 4)
 
+-- an identity takes at least one byte
 pub uuid_shortens : Shortens UuidForm
 uuid_shortens bytes x rest h = Begins-shorter bytes 4 h.0 rest h.1
 
@@ -52,18 +55,22 @@ uuid_shortens bytes x rest h = Begins-shorter bytes 4 h.0 rest h.1
 uuid_advances : Advances uuid_at
 uuid_advances = advances UuidForm uuid_at uuid_exact uuid_shortens
 
+-- one that was read stands after those before it
 pub uuids_go_on : (prefix : List ℕ) (stop : ℕ) (bytes : List ℕ) (x : ℕ) (rest : List ℕ) → 0 < length bytes → uuid_at stop bytes ≡ Ok (x, rest)
     → with_prefix (prefix ++ x ∷ []) (many_at uuid_at stop rest) ≡ with_prefix prefix (many_at uuid_at stop bytes)
 uuids_go_on prefix stop bytes x rest some h = many_goes_on uuid_at uuid_advances prefix stop bytes x rest some h
 
+-- where one is refused, all are
 pub uuids_fail : (prefix : List ℕ) (stop : ℕ) (bytes : List ℕ) (e : SyncFault) → 0 < length bytes → uuid_at stop bytes ≡ Err e → with_prefix prefix (many_at uuid_at stop bytes) ≡ Err e
 uuids_fail prefix stop bytes e some h = many_fails uuid_at uuid_advances prefix stop bytes e some h
 
+-- where no byte is left, they are those that were read
 pub uuids_end : (prefix : List ℕ) (stop : ℕ) (bytes : List ℕ) → length bytes ≡ 0 → with_prefix prefix (many_at uuid_at stop bytes) ≡ Ok prefix
 uuids_end prefix stop bytes none = many_ended uuid_at prefix stop bytes none
 
 -- ---- written
 
+-- the canonical octets of an identity spell it
 pub uuid_spelled : Spelled UuidForm uuid_octets (λ id. id < 2 ^ 128) Anything
 uuid_spelled = meaning_spelled IsUuid (OctetString 4) (element 4) (Always {X = List ℕ}) Anything (to_be_bytes w128) (λ id. id < 2 ^ 128)
     (λ id small. ((refl, sym (from_be_bytes-to_be_bytes_16 id small)), tt)) (octets_spelled 4 (omega arith))

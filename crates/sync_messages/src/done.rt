@@ -18,6 +18,7 @@ use crate::parts::{cookie_of, put_refresh};
 use ldap_ber::{NoMemory, Octets, Reader, Writer};
 use std::alloc::Global;
 
+/// The value of a Sync Done control (RFC 4533, section 2.4).
 #[derive(Drop)]
 pub struct SyncDone {
     pub cookie: Option<Octets>,

@@ -34,6 +34,7 @@ use crate::parts::{cookie_of, put_refresh, put_uuid, uuid_of};
 use ldap_ber::{NoMemory, Octets, Reader, Writer};
 use std::alloc::Global;
 
+/// The value of a Sync Info message (RFC 4533, section 2.5).
 #[derive(Drop)]
 pub enum SyncInfo {
     NewCookie(Octets),

@@ -31,6 +31,7 @@ pub enum Mode {
     RefreshAndPersist,
 }
 
+/// The value of a Sync Request control (RFC 4533, section 2.2).
 #[derive(Drop)]
 pub struct SyncRequest {
     pub mode: Mode,

@@ -33,6 +33,7 @@ pub enum State {
     Delete,
 }
 
+/// The value of a Sync State control (RFC 4533, section 2.3).
 #[derive(Drop)]
 pub struct SyncState {
     pub state: State,

@@ -90,6 +90,7 @@ eachd-append P Q [] es a b = b
 eachd-append P Q (Sends entry ∷ ds) es a b = (a.0, eachd-append P Q ds es a.1 b)
 eachd-append P Q (Names uuid ∷ ds) es a b = (a.0, eachd-append P Q ds es a.1 b)
 
+-- some messages mean an identity where the first or the others do
 pub meant-append : (u : ℕ) (ms ns : List SyncMessage) → meant u (ms ++ ns) ≡ (meant u ms || meant u ns)
 meant-append u [] ns = refl
 meant-append u (m ∷ ms) ns = step (meant_by u m) (meant-append u ms ns) where

@@ -30,6 +30,7 @@ ascends-renamed entries (Some top) rdn deletes superior csn asc =
     (moved_keeps top (new_name top rdn superior) (new_attributes top rdn deletes) csn) entries
     ∙ asc
 
+-- a write leaves entries in order
 pub ascends-effect : (op : Op) (entries : List Entry) (uuid : ℕ) (csn : CsnValue) → ascends entries ≡ true → ascends (effect entries op uuid csn) ≡ true
 ascends-effect (Add name attrs) entries uuid csn asc = ascends_put (record { uuid = uuid; csn = csn; dn = name; attrs = attrs }) entries asc
 ascends-effect (Delete name) entries uuid csn asc = ascends_filter (λ e. not (is_named name e)) entries asc
@@ -37,6 +38,7 @@ ascends-effect (Modify name edits) entries uuid csn asc = ascends-modified entri
 ascends-effect (Rename name rdn deletes superior) entries uuid csn asc = ascends-renamed entries (entry_named entries name) rdn deletes superior csn asc
 ascends-effect (Commit puts drops) entries uuid csn asc = ascends_committed entries puts drops asc
 
+-- so do some writes
 pub ascends-state_from : (writes : List Write) (history : ℕ) (entries : List Entry) (before : ℕ) → ascends entries ≡ true → ascends (state_from history entries before writes) ≡ true
 unfolding state_from
 ascends-state_from [] history entries before asc = asc

@@ -222,6 +222,7 @@ about-notified cookie entry_change rest is = step entry_change.before entry_chan
   step None (Some now) change own = ap (λ uuid. (uuid ∷ []) ∷ map about rest) own
   step (Some was) (Some now) change own = ap (λ uuid. (uuid ∷ []) ∷ map about rest) own
 
+-- the messages of a write are about the identities that it changed
 pub about-notified_all : (entry_changes : List EntryChange) (cookie : CookieText) → Each IsStep entry_changes → map about (notified_all cookie entry_changes) ≡ map (λ entry_change. entry_change.uuid ∷ []) entry_changes
 about-notified_all [] cookie steps = refl
 about-notified_all (entry_change ∷ []) cookie steps =

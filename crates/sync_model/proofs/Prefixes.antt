@@ -15,7 +15,8 @@ use Rattle.sync_model.specs.Copy.{SyncSession, Copy, Fault, Answer, asked, stage
 use Rattle.sync_model.specs.Copy.Fault.{OutOfPlace, PresentUnknown}
 use Rattle.entry_tree.specs.Touched.{joined, touched}
 use Rattle.sync_model.specs.Copy.Answer.{Staged, Stored, Copied, Over, Refused}
-use Rattle.sync_model.specs.Law.{Ascending, IsCut, MayBegin, settled, cookie_after, is_nil, ShowsContent, ShowsAsBefore, Shows}
+use Rattle.sync_model.specs.Keeping.{KeepsEntriesAndCookie}
+use Rattle.sync_model.specs.Law.{Ascending, IsCut, MayBegin, settled, cookie_after, is_nil, ShowsContent, Shows}
 use Rattle.sync_model.proofs.Gather.{Each, EachM, each-append, each-prefix, each-gathered}
 use Rattle.sync_model.proofs.Refresh.{refresh_ends, marks-last, ascends-content}
 use Rattle.sync_model.proofs.Later.{IsStep, each-touched, notified_between, group_taken, later_ends, taken_all-append}
@@ -101,11 +102,12 @@ quiet_one message id copy quiet = step copy.session where
   step None = refused_unchanged copy OutOfPlace
   step (Some session) = unchanged_if (id == session.id) copy (taken_in copy session message) (refused copy OutOfPlace) (quiet_in message copy session quiet) (refused_unchanged copy OutOfPlace)
 
-pub quiet_all : (messages : List SyncMessage) (id : ℕ) (copy : Copy) → AllQuiet messages → ShowsAsBefore copy (taken_all id copy messages)
+-- so do several of them
+pub quiet_all : (messages : List SyncMessage) (id : ℕ) (copy : Copy) → AllQuiet messages → KeepsEntriesAndCookie copy (taken_all id copy messages)
 quiet_all [] id copy quiet = record { held = refl; cookie = refl }
 quiet_all (message ∷ messages) id copy quiet =
     let first : Unchanged copy (taken id copy message) = quiet_one message id copy quiet.0 in
-    let rest : ShowsAsBefore (taken id copy message).0 (taken_all id (taken id copy message).0 messages) = quiet_all messages id (taken id copy message).0 quiet.1 in
+    let rest : KeepsEntriesAndCookie (taken id copy message).0 (taken_all id (taken id copy message).0 messages) = quiet_all messages id (taken id copy message).0 quiet.1 in
     record { held = rest.held ∙ first.held; cookie = rest.cookie ∙ first.cookie }
 
 -- ---- a part of a refresh is quiet
@@ -286,7 +288,7 @@ module _ (operation : SyncOperation) (ascending : Ascending operation) where
       inside over p quiet =
           let copy : Copy = settled id true ended (content_after operation (from + count)) (cookie_after operation (Some (operation.cookies from)) from count) in
           let shows : ShowsContent operation from (from + count) copy = shows_now count from id ended in
-          let same : ShowsAsBefore copy (taken_all id copy over) = quiet_all over id copy quiet in
+          let same : KeepsEntriesAndCookie copy (taken_all id copy over) = quiet_all over id copy quiet in
           let whole : taken_all id first prefix ≡ taken_all id copy over =
           ap (taken_all id first) p ∙ taken_all-append (later operation from count) over id first ∙ ap (λ c. taken_all id c over) (later_ends operation ascending count id from (Some (operation.cookies from)) ended) in
           subst (ShowsContent operation from (from + count)) (sym whole)
@@ -340,7 +342,7 @@ module _ (operation : SyncOperation) (ascending : Ascending operation) where
       (λ shows. inr shows)
       (prefix_cases id start accepted pieces count copy prefix rest cut begins h)
     where
-      before : AllQuiet prefix → ShowsAsBefore copy (taken_all id (asked id operation.persists copy) prefix)
+      before : AllQuiet prefix → KeepsEntriesAndCookie copy (taken_all id (asked id operation.persists copy) prefix)
       before quiet =
-          let same : ShowsAsBefore (asked id operation.persists copy) (taken_all id (asked id operation.persists copy) prefix) = quiet_all prefix id (asked id operation.persists copy) quiet in
+          let same : KeepsEntriesAndCookie (asked id operation.persists copy) (taken_all id (asked id operation.persists copy) prefix) = quiet_all prefix id (asked id operation.persists copy) quiet in
           record { held = same.held; cookie = same.cookie }

@@ -44,6 +44,7 @@ module _ (operation : SyncOperation) (asc : Ascending operation) where
   pub ascends-content : (n : ℕ) → ascends (content_after operation n) ≡ true
   ascends-content n = ascends_filter (is_selected operation.selection) (operation.states n) (asc n)
 
+  -- what is found at a mark is what is selected of the state there
   pub found_in_state : (n u : ℕ) → found n u ≡ option_filter (is_selected operation.selection) (entry_at (operation.states n) u)
   found_in_state n u = entry_at-filter (is_selected operation.selection) (operation.states n) u (asc n)
 
@@ -164,6 +165,7 @@ module _ (operation : SyncOperation) (asc : Ascending operation) where
 
   -- ---- right at each identity that does not change between r and e
 
+  -- an identity that no write changed between two marks is found alike at both
   pub same_at_marks : (r e m u : ℕ) → r ≤ m → m ≤ e → among u (late_uuids operation r e) ≡ false → found m u ≡ found e u
   same_at_marks r e m u p q out =
       steady_within (λ n. content_after operation n) r e m u p q out ∙ sym (steady_within (λ n. content_after operation n) r e e u (omega (arith, p, q)) (omega arith) out)

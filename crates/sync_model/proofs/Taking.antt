@@ -127,6 +127,7 @@ keyed-staged (s ∷ stage) v change own keyed = step (keyed-staged stage v chang
   step ih false true _ same = (subst (λ k. IsOwn k change) (eqb-true v s.0 same) own, keyed.1)
   step ih false false _ _ = (keyed.0, ih)
 
+-- it does where identities are dropped
 pub keyed-all_dropped : (us : List ℕ) (stage : Stage) → IsKeyed stage → IsKeyed (all_dropped stage us)
 keyed-all_dropped [] stage keyed = keyed
 keyed-all_dropped (u ∷ us) stage keyed = keyed-all_dropped us (staged u None stage) (keyed-staged stage u None tt keyed)
@@ -139,6 +140,7 @@ if_keyed : (b : Bool) (one other : Stage) → IsKeyed one → IsKeyed other → 
 if_keyed true one other h k = h
 if_keyed false one other h k = k
 
+-- it does after a message is staged
 pub keyed-staged_by : (m : SyncMessage) (stage : Stage) → IsKeyed stage → IsKeyed (staged_by stage m)
 keyed-staged_by (AddOrModify adds entry c) stage keyed = keyed-staged stage entry.uuid (Some entry) refl keyed
 keyed-staged_by (IdSet d us c) stage keyed = if_keyed d (all_dropped stage us) stage (keyed-all_dropped us stage keyed) keyed
@@ -174,6 +176,7 @@ at-effected (s ∷ stage) held u asc keyed = step s.1 keyed.0 (at-effected stage
   step None own ih asc = grind (arith, nat_tests, entry_at-dropped (effected held stage) s.0 u)
   step (Some entry) own ih asc = grind (arith, nat_tests, entry_at_put entry (effected held stage) u asc)
 
+-- what the end of a present phase stages is the drop of what was held and not named
 pub slot-present_ended : (named : List ℕ) (stage : Stage) (held : List Entry) (u : ℕ)
     → slot (present_ended named stage held) u ≡ cond (is_some (entry_at held u) && not (among u named || is_put (slot stage u))) (Some None) (slot stage u)
 slot-present_ended named stage held u =
@@ -239,6 +242,7 @@ module _ (deletes : Bool) (P : Entry → Type 0) (Q : ℕ → Type 0) (held : Li
   fine_one (Done code c) named stage r a f = absurd a
   fine_one Ignored named stage r a f = absurd a
 
+  -- what is right at an identity stays so over messages that are right there
   pub fine_stays : (ms : List SyncMessage) (named : List ℕ) (stage : Stage) → Right deletes P Q held t u → EachM deletes P Q ms → Fine held t named stage u → Fine held t (names_after named ms) (stage_after stage ms) u
   fine_stays [] named stage r a f = f
   fine_stays (m ∷ ms) named stage r a f = fine_stays ms (named_by named m) (staged_by stage m) r a.1 (fine_one m named stage r a.0 f)

@@ -8,6 +8,7 @@ use Rattle.sync_model.specs.Message.{CookieText, SyncMessage}
 use Rattle.sync_model.specs.Stream.{SyncOperation, Start, RefreshPiece, content_after, walk, last_mark, refresh, group, later, stream}
 use Rattle.sync_model.specs.Stream.Start.{InitialContent, DeletePhase, PresentPhase}
 use Rattle.sync_model.specs.Copy.{SyncSession, Copy, asked, taken_all, answers}
+use Rattle.sync_model.specs.Keeping.{KeepsEntriesAndCookie}
 use Rattle.sync_model.specs.Within.{same_named, taken_all_within, answers_within}
 
 -- each state is in ascending order of identity
@@ -108,14 +109,10 @@ pub record ShowsContent (operation : SyncOperation) (least most : ℕ) (after : 
   pub held : after.held ≡ content_after operation number
   pub cookie : after.cookie ≡ Some (operation.cookies number)
 
--- the copy has what it had
-pub record ShowsAsBefore (before after : Copy) : Type 0 where
-  pub held : after.held ≡ before.held
-  pub cookie : after.cookie ≡ before.cookie
-
+-- the copy has what it had, or that content
 abbrev pub Shows : SyncOperation → Copy → ℕ → ℕ → Copy → Type 0
 Shows operation before least most after =
-    ShowsAsBefore before after ⊎ ShowsContent operation least most after
+    KeepsEntriesAndCookie before after ⊎ ShowsContent operation least most after
 
 -- wherever a search is cut off, the copy has what it had before it or the content
 -- after some of the writes

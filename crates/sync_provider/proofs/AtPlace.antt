@@ -24,14 +24,17 @@ use Rattle.sync_provider.proofs.Turns.{first_part, first_end, over_turn, later_s
 
 -- ---- what is left of a refresh
 
+-- how many parts are left
 pub parts_left : {X : Type 0} (xs : List X) (k : ℕ) → length xs - k ≡ length (drop k xs)
 parts_left xs k = sym (length-drop k xs)
 
+-- the part at a place of what is left
 pub part_after : (persists deletes : Bool) (parts : List RefreshItem) (handed place : ℕ) (p : RefreshItem) (cookie : CookieText) → slice_get parts (handed + place) ≡ Some p
     → first_of persists deletes (drop place (drop handed parts)) cookie ≡ message_of deletes p
 part_after persists deletes parts handed place p cookie at =
     ap (λ ps. first_of persists deletes ps cookie) (drop-drop place handed parts) ∙ first_part persists deletes parts (handed + place) p cookie at
 
+-- after the last one the end of the refresh
 pub end_after : (persists deletes : Bool) (parts : List RefreshItem) (handed place : ℕ) (cookie : CookieText) → length parts ≤ handed + place
     → first_of persists deletes (drop place (drop handed parts)) cookie ≡ end_of persists deletes cookie
 end_after persists deletes parts handed place cookie all =
@@ -67,17 +70,21 @@ past_refresh_list persists deletes (p ∷ parts) cookie due (suc place) low =
 pending_list : (s : SearchState) (rest : List SyncMessage) → s.over ≡ false → s.rest ≡ rest → pending s ≡ rest ++ s.due
 pending_list s rest off is = λ i. cond (off i) (busy_end ∷ []) (is i ++ s.due)
 
+-- of a search that is over the end with busy alone
 pub over_after : (s : SearchState) (place : ℕ) → s.over ≡ true → place ≤ 0 → turn_of_pending s.id (drop place (pending s)) ≡ Closes (pos BUSY) (sent s.id (Done (pos BUSY) None))
 over_after s zero on first = over_turn s on
 over_after s (suc place) on first = absurd (omega arith)
 
+-- it is a message
 pub over_is_message : (s : SearchState) (place : ℕ) → s.over ≡ true → place ≤ 0 → has_message (turn_of_pending s.id (drop place (pending s))) ≡ true
 over_is_message s place on first = ap has_message (over_after s place on first)
 
+-- and nothing stands after it
 pub over_nothing : (s : SearchState) (place : ℕ) → s.over ≡ true → 0 < place → turn_of_pending s.id (drop place (pending s)) ≡ Waits
 over_nothing s zero on later = absurd (omega arith)
 over_nothing s (suc place) on later = ap (λ o. turn_of_pending s.id (drop (suc place) (cond o (busy_end ∷ []) (s.rest ++ s.due)))) on ∙ ap (turn_of_pending s.id) (drop_none place)
 
+-- a part of the refresh
 pub parts_after : (s : SearchState) (persists deletes : Bool) (parts : List RefreshItem) (cookie : CookieText) (place : ℕ) → s.over ≡ false → s.rest ≡ messages_of persists deletes parts cookie → place < length parts
     → turn_of_pending s.id (drop place (pending s)) ≡ Hands (sent s.id (first_of persists deletes (drop place parts) cookie))
 parts_after s persists deletes parts cookie place off is low =
@@ -109,6 +116,7 @@ last_after s deletes parts cookie place off is e =
     end_of_refresh s false deletes parts cookie place off is e
     ∙ ap (turn_of_message s.id) first ∙ ap (λ m. Closes (pos SUCCESS) (sent s.id m)) (sym first)
 
+-- as long as something is left of the refresh there is a message
 pub refresh_has_message : (s : SearchState) (persists deletes : Bool) (parts : List RefreshItem) (cookie : CookieText) (place : ℕ) → s.over ≡ false → s.rest ≡ messages_of persists deletes parts cookie → place ≤ length parts
     → has_message (turn_of_pending s.id (drop place (pending s))) ≡ true
 refresh_has_message s persists deletes parts cookie place off is within =
@@ -123,6 +131,7 @@ refresh_has_message s persists deletes parts cookie place off is within =
 pub no_refresh : (s : SearchState) (place : ℕ) → s.over ≡ false → s.rest ≡ [] → drop place (pending s) ≡ drop place s.due
 no_refresh s place off none = ap (drop place) (pending_list s [] off none)
 
+-- after the refresh come the later writes
 pub past_refresh : (s : SearchState) (persists deletes : Bool) (parts : List RefreshItem) (cookie : CookieText) (place : ℕ) → s.over ≡ false → s.rest ≡ messages_of persists deletes parts cookie → length parts < place
     → drop place (pending s) ≡ drop (place - length parts - 1) s.due
 past_refresh s persists deletes parts cookie place off is later =
@@ -141,9 +150,11 @@ due_first s place after m is at =
     ap (turn_of_pending s.id) (is ∙ drop_more s.due after m (slice_get_within s.due after m at))
     ∙ ap (turn_of_message s.id) (get_or_from_slice_get s.due after m m at)
 
+-- a message of these
 pub due_after : (s : SearchState) (place after : ℕ) (m : SyncMessage) → drop place (pending s) ≡ drop after s.due → slice_get s.due after ≡ Some m → is_end m ≡ false → turn_of_pending s.id (drop place (pending s)) ≡ Hands (sent s.id m)
 due_after s place after m is at goes = due_first s place after m is at ∙ hands s.id m goes
 
+-- it is a message
 pub due_is_message : (s : SearchState) (place after : ℕ) (m : SyncMessage) → drop place (pending s) ≡ drop after s.due → slice_get s.due after ≡ Some m → has_message (turn_of_pending s.id (drop place (pending s))) ≡ true
 due_is_message s place after m is at = ap has_message (due_first s place after m is at) ∙ message_there s.id m
 
@@ -155,23 +166,28 @@ drop_past (x ∷ xs) zero past = absurd (never past)
     never e = cc
 drop_past (x ∷ xs) (suc k) past = drop_past xs k past
 
+-- after them nothing is pending
 pub due_nothing : (s : SearchState) (place after : ℕ) → drop place (pending s) ≡ drop after s.due → slice_get s.due after ≡ None → turn_of_pending s.id (drop place (pending s)) ≡ Waits
 due_nothing s place after is past = ap (turn_of_pending s.id) (is ∙ drop_past s.due after past)
 
 -- ---- whether the first one is the last
 
+-- the end with busy is
 pub over_closes : (s : SearchState) → s.over ≡ true → is_closing (Some (turn_of_pending s.id (pending s))) ≡ true
 over_closes s on = ap (λ t. is_closing (Some t)) (over_turn s on)
 
+-- the end of a refresh is, where the search ends with it
 pub refresh_closes : (s : SearchState) (persists deletes : Bool) (parts : List RefreshItem) (cookie : CookieText) → s.over ≡ false → s.rest ≡ messages_of persists deletes parts cookie
     → is_closing (Some (turn_of_pending s.id (pending s))) ≡ (is_nil parts && not persists)
 refresh_closes s true deletes [] cookie off is = ap (λ t. is_closing (Some t)) (end_turn s deletes [] cookie off is refl)
 refresh_closes s false deletes [] cookie off is = ap (λ t. is_closing (Some t)) (last_turn s deletes [] cookie off is refl)
 refresh_closes s persists deletes (p ∷ parts) cookie off is = ap (λ t. is_closing (Some t)) (part_turn s persists deletes (p ∷ parts) cookie off is refl)
 
+-- a message of a later write is not
 pub due_closes : (s : SearchState) (m : SyncMessage) → s.over ≡ false → s.rest ≡ [] → slice_get s.due 0 ≡ Some m → is_end m ≡ false → is_closing (Some (turn_of_pending s.id (pending s))) ≡ false
 due_closes s m off none first goes = ap (λ t. is_closing (Some t)) (later_turn s m off none first goes)
 
+-- nor is nothing
 pub none_closes : (s : SearchState) → s.over ≡ false → s.rest ≡ [] → slice_get s.due 0 ≡ None → is_closing (Some (turn_of_pending s.id (pending s))) ≡ false
 none_closes s off none past = ap (λ t. is_closing (Some t)) (none_turn s off none past)
 
@@ -207,12 +223,15 @@ goes_past s goes = by s.over s.rest s.due goes
 
 -- ---- among the open searches
 
+-- of the search of a number, at a place
 pub found_after : (es : List (ℕ × HeldSearch)) (k place : ℕ) (held : HeldSearch) → kept_at es k ≡ Some held → turn_at_place (searches_of es) k place ≡ turn_of_pending held.search.id (drop place (pending held.search))
 found_after es k place held found = ap (turn_of_place place) (search_found es k held found)
 
+-- of a number that none has
 pub none_after : (es : List (ℕ × HeldSearch)) (k place : ℕ) → kept_at es k ≡ None → turn_at_place (searches_of es) k place ≡ Unknown
 none_after es k place found = ap (turn_of_place place) (search_none es k found)
 
+-- there is a message exactly where the search has one
 pub found_is_message : (es : List (ℕ × HeldSearch)) (k place : ℕ) (held : HeldSearch) → kept_at es k ≡ Some held → has_message (turn_of_pending held.search.id (drop place (pending held.search))) ≡ true
     → has_message (turn_at_place (searches_of es) k place) ≡ true
 found_is_message es k place held found there = ap has_message (found_after es k place held found) ∙ there

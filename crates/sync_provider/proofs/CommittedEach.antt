@@ -169,6 +169,7 @@ replica_refusal p (staged ∷ commits) now kind = by (replica_refusal after comm
         ap (λ o. option_or o (refusal_of_each (committed p staged.puts staged.drops now) commits now)) (kinded ∙ ap (option_map fault_of) some)
         ∙ sym (ap whole some)
 
+-- at a replica nothing does where the directory has nothing against them
 pub replica_unopposed : (p : ProviderState) (commits : List StagedCommit) (now : ℕ) → p.kind ≡ Replica → first_refusal p.directory commits now ≡ None → refusal_of_each p commits now ≡ None
 replica_unopposed p commits now kind none = replica_refusal p commits now kind ∙ ap (option_map fault_of) none
 

@@ -16,6 +16,7 @@ Name = List (List TypeAndValue)
 
 -- ---- the entry and the type
 
+-- no entry has the name
 pub no_entry : (entries : List Entry) (dn : Name) (name value : List ℕ) → entry_named entries dn ≡ None → compare_code entries dn name value ≡ NO_SUCH_OBJECT
 no_entry entries dn name value none = ap (λ found. found_code found name value) none
 
@@ -23,6 +24,7 @@ at_entry : (entries : List Entry) (dn : Name) (name value : List ℕ) (e : Entry
     → compare_code entries dn name value ≡ type_code e.attrs kind value
 at_entry entries dn name value e kind there named = ap (λ found. found_code found name value) there ∙ ap (λ k. type_code e.attrs k value) named
 
+-- the schema has no such type
 pub no_type : (entries : List Entry) (dn : Name) (name value : List ℕ) (e : Entry) → entry_named entries dn ≡ Some e → type_named name ≡ None
     → compare_code entries dn name value ≡ UNDEFINED_ATTRIBUTE_TYPE
 no_type entries dn name value e there none = at_entry entries dn name value e None there none
@@ -32,16 +34,19 @@ by_kind : (entries : List Entry) (dn : Name) (name value : List ℕ) (e : Entry)
 by_kind entries dn name value e kind own there named is =
     at_entry entries dn name value e (Some kind) there named ∙ ap (λ b. cond b UNDEFINED_ATTRIBUTE_TYPE (value_code e.attrs kind value)) is
 
+-- the type is operational
 pub operational_type : (entries : List Entry) (dn : Name) (name value : List ℕ) (e : Entry) (kind : ℕ) → entry_named entries dn ≡ Some e → type_named name ≡ Some kind → is_operational kind ≡ true
     → compare_code entries dn name value ≡ UNDEFINED_ATTRIBUTE_TYPE
 operational_type entries dn name value e kind there named is = by_kind entries dn name value e kind true there named is
 
+-- the type is another one
 pub typed : (entries : List Entry) (dn : Name) (name value : List ℕ) (e : Entry) (kind : ℕ) → entry_named entries dn ≡ Some e → type_named name ≡ Some kind → is_operational kind ≡ false
     → compare_code entries dn name value ≡ value_code e.attrs kind value
 typed entries dn name value e kind there named is = by_kind entries dn name value e kind false there named is
 
 -- ---- the value
 
+-- it is not of the type's syntax
 pub other_syntax : (attributes : List Attribute) (kind : ℕ) (value : List ℕ) → key_of kind value ≡ None → value_code attributes kind value ≡ INVALID_ATTRIBUTE_SYNTAX
 other_syntax attributes kind value none = ap (key_code attributes kind) none
 
@@ -49,6 +54,7 @@ at_key : (attributes : List Attribute) (kind : ℕ) (value key : List ℕ) (foun
     → value_code attributes kind value ≡ attribute_code kind key found
 at_key attributes kind value key found is there = ap (key_code attributes kind) is ∙ ap (attribute_code kind key) there
 
+-- the entry has no value of the type
 pub no_attribute : (attributes : List Attribute) (kind : ℕ) (value key : List ℕ) → key_of kind value ≡ Some key → find (λ a. a.kind == kind) attributes ≡ None
     → value_code attributes kind value ≡ NO_SUCH_ATTRIBUTE
 no_attribute attributes kind value key is none = at_key attributes kind value key None is none
@@ -58,10 +64,12 @@ by_match : (attributes : List Attribute) (kind : ℕ) (value key : List ℕ) (a 
 by_match attributes kind value key a hit is there holds =
     at_key attributes kind value key (Some a) is there ∙ ap (λ b. cond b COMPARE_TRUE COMPARE_FALSE) holds
 
+-- the entry has one that matches
 pub value_matches : (attributes : List Attribute) (kind : ℕ) (value key : List ℕ) (a : Attribute) → key_of kind value ≡ Some key → find (λ x. x.kind == kind) attributes ≡ Some a
     → list_any (matches kind key) a.values ≡ true → value_code attributes kind value ≡ COMPARE_TRUE
 value_matches attributes kind value key a is there holds = by_match attributes kind value key a true is there holds
 
+-- it has none that matches
 pub no_value_matches : (attributes : List Attribute) (kind : ℕ) (value key : List ℕ) (a : Attribute) → key_of kind value ≡ Some key → find (λ x. x.kind == kind) attributes ≡ Some a
     → list_any (matches kind key) a.values ≡ false → value_code attributes kind value ≡ COMPARE_FALSE
 no_value_matches attributes kind value key a is there fails = by_match attributes kind value key a false is there fails

@@ -109,6 +109,7 @@ Follows p (call ∷ calls) last = Fits p call × Follows (after_made p call) cal
 pub made_fits : (p : ProviderState) (call : ProviderCall) → Fits p (made p call)
 made_fits p call = record { takes = made_takes p call; number = λ counts. refl; always = λ none. refl }
 
+-- the provider after those that count is the last one
 pub follows_run : (calls : List MadeCall) (p last : ProviderState) → Follows p calls last → run p (counted calls) ≡ last
 follows_run [] p last is = is
 follows_run (call ∷ calls) p last is = by call.counts ∙ follows_run calls (after_made p call) last is.1
@@ -117,6 +118,7 @@ follows_run (call ∷ calls) p last is = by call.counts ∙ follows_run calls (a
     by true = refl
     by false = refl
 
+-- one call more
 pub follows_more : (calls : List MadeCall) (p last : ProviderState) (call : MadeCall) → Follows p calls last → Fits last call → Follows p (calls ++ call ∷ []) (after_made last call)
 follows_more [] p last call is fits = (subst (λ s. Fits s call) (sym is) fits, ap (λ s. after_made s call) is)
 follows_more (first ∷ calls) p last call is fits = (is.0, follows_more calls (after_made p first) last call is.1 fits)

@@ -43,6 +43,7 @@ item_uuid : (d : DirectoryState) (search : Search) (u : ℕ) (found : Option Ent
 item_uuid d search u None = refl
 item_uuid d search u (Some entry) = refl
 
+-- the items of identities have these identities
 pub items_uuids : (d : DirectoryState) (search : Search) (us : List ℕ) → items.identities (map (item_at d search) us) ≡ us
 items_uuids d search [] = refl
 items_uuids d search (u ∷ us) = λ i. item_uuid d search u (entry_at (entries_of d) u) i ∷ items_uuids d search us i
@@ -53,6 +54,7 @@ each_above u (e ∷ es) h =
     let p = and_parts (nat_lt u e.uuid) (above u es) h in
     (less_cmp u e.uuid (ltb-true u e.uuid p.0), each_above u es p.1)
 
+-- those of entries in order are
 pub sorted_identities : (es : List Entry) → ascends es ≡ true → IsStrictlySortedBy nat_cmp (identities es)
 unfolding IsStrictlySortedBy
 sorted_identities [] asc = tt
@@ -60,9 +62,11 @@ sorted_identities (e ∷ es) asc =
     let p = and_parts (above e.uuid es) (ascends es) asc in
     (each_above e.uuid es p.0, sorted_identities es p.1)
 
+-- so are those of their items
 pub items_sorted : (d : DirectoryState) (search : Search) (us : List ℕ) → IsStrictlySortedBy nat_cmp us → IsStrictlySortedBy nat_cmp (items.identities (map (item_at d search) us))
 items_sorted d search us sorted = subst (IsStrictlySortedBy nat_cmp) (sym (items_uuids d search us)) sorted
 
+-- and those of a directory
 pub all_sorted : (d : DirectoryState) → IsStrictlySortedBy nat_cmp (all_identities d)
 all_sorted d =
     sorted_identities (entries_of d) (ascends_now d)

@@ -28,12 +28,14 @@ heavy_was : (items : List SyncMessage) → Counted items → most_pending_weight
 heavy_was items (inl same) heavy = omega (arith, same, heavy)
 heavy_was items (inr far) heavy = omega (arith, far.0)
 
+-- a queue that would be over its limit is full
 pub full_is : (limit : ℕ) (items : List SyncMessage) → IsOver counted_weight limit items → is_full limit items ≡ true
 full_is limit items (inl many) = ap (λ b. b || nat_lt most_pending_weight (sum_by message_weight items)) (lt-ltb limit (length items) many)
 full_is limit items (inr heavy) =
     or_right (nat_lt limit (length items)) (nat_lt most_pending_weight (sum_by message_weight items))
     (lt-ltb most_pending_weight (sum_by message_weight items) (heavy_is items (counted_sum items) heavy))
 
+-- one that would not has room
 pub room_is : (limit : ℕ) (items : List SyncMessage) → (IsOver counted_weight limit items → ⊥) → is_full limit items ≡ false
 room_is limit items none = by (nat_lt limit (length items)) (nat_lt most_pending_weight (sum_by message_weight items)) refl refl
   where
@@ -44,15 +46,18 @@ room_is limit items none = by (nat_lt limit (length items)) (nat_lt most_pending
 
 -- ---- the search
 
+-- without messages it stays
 pub pushed_none : (limit : ℕ) (messages : List SyncMessage) (s : SearchState) → length messages ≡ 0 → pushed limit messages s ≡ s
 pushed_none limit [] s none = refl
 pushed_none limit (m ∷ ms) s none = absurd (omega (arith, none))
 
+-- where they are too much it is over
 pub pushed_over : (limit : ℕ) (messages : List SyncMessage) (s : SearchState) → 0 < length messages → IsOver counted_weight limit (s.due ++ messages)
     → pushed limit messages s ≡ overflowed s
 pushed_over limit [] s some over = absurd (omega (arith, some))
 pushed_over limit (m ∷ ms) s some over = ap (λ b. cond b (overflowed s) (record s { due = s.due ++ m ∷ ms })) (full_is limit (s.due ++ m ∷ ms) over)
 
+-- otherwise they are pending
 pub pushed_in : (limit : ℕ) (messages : List SyncMessage) (s : SearchState) → 0 < length messages → (IsOver counted_weight limit (s.due ++ messages) → ⊥)
     → pushed limit messages s ≡ record s { due = s.due ++ messages }
 pushed_in limit [] s some none = absurd (omega (arith, some))
@@ -73,6 +78,7 @@ room_added shows staged messages spare after count total has all fits =
       room = fits;
     })
 
+-- the messages that are staged for one search more
 pub groups_added : {M : Type 0} (shows : M → List SyncMessage) (staged : List M) (messages : M) → map shows (staged ++ messages ∷ []) ≡ map shows staged ++ shows messages ∷ []
 groups_added shows staged messages = map_push shows staged messages
 
@@ -80,6 +86,7 @@ groups_added shows staged messages = map_push shows staged messages
 pub none_staged : {M : Type 0} (shows : M → List SyncMessage) (staged : List M) → staged ≡ [] → map shows staged ≡ []
 none_staged shows staged none = ap (map shows) none
 
+-- for none there is room
 pub room_none : {M : Type 0} (shows : M → List SyncMessage) (staged : List M) (spare : ℕ) → staged ≡ [] → HasRoom spare 0 (map shows staged)
 room_none shows staged spare none = subst (HasRoom spare 0) (sym (none_staged shows staged none)) (record { counted = refl; room = omega arith })
 
@@ -91,6 +98,7 @@ group_counted shows staged rest messages spare count has is =
     let counted : count ≡ length (shows messages) + sum_by length (map shows rest) = first.counted ∙ sum_by-cons length (shows messages) (map shows rest) in
     omega (arith, counted)
 
+-- there is room for the first of them
 pub group_fits : {M : Type 0} (shows : M → List SyncMessage) (staged rest : List M) (messages : M) (spare count : ℕ) → HasRoom spare count (map shows staged) → staged ≡ messages ∷ rest
     → length (shows messages) ≤ spare
 group_fits shows staged rest messages spare count has is =
@@ -113,6 +121,7 @@ pub first_none : {M : Type 0} (shows : M → List SyncMessage) (limit : ℕ) (s 
 first_none shows limit s [] none = refl
 first_none shows limit s (messages ∷ rest) none = absurd (omega (arith, none))
 
+-- the first group is pushed
 pub first_some : {M : Type 0} (shows : M → List SyncMessage) (limit : ℕ) (s : SearchState) (staged rest : List M) (messages : M) → staged ≡ messages ∷ rest
     → first_pushed limit s (map shows staged) ≡ record { search = pushed_group limit (shows messages) s; staged = map shows rest }
 first_some shows limit s staged rest messages is = ap (λ all. first_pushed limit s (map shows all)) is
@@ -156,10 +165,12 @@ pub pushed_next : (limit : ℕ) (s : SearchState) (groups : List (List SyncMessa
 pushed_next limit s [] = refl
 pushed_next limit s (messages ∷ groups) = refl
 
+-- one group fewer is left
 pub left_next : (limit : ℕ) (s : SearchState) (groups : List (List SyncMessage)) → 0 < length groups → length (first_pushed limit s groups).staged + 1 ≡ length groups
 left_next limit s [] some = absurd (omega (arith, some))
 left_next limit s (messages ∷ groups) some = omega arith
 
+-- where none is left, the search is as all of them leave it
 pub pushed_end : (limit : ℕ) (groups : List (List SyncMessage)) (s whole : SearchState) → length groups ≡ 0 → pushed_staged limit groups s ≡ whole → s ≡ whole
 pushed_end limit [] s whole none is = is
 pushed_end limit (messages ∷ groups) s whole none is = absurd (omega (arith, none))

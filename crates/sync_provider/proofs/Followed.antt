@@ -76,6 +76,7 @@ limited_followed d0 s0 d limit s before t is = record {
 
 -- ---- all calls
 
+-- whatever they are
 pub followed : (calls : List ProviderCall) (d0 : DirectoryState) (s0 : SearchState) (number : ℕ) (writes : List Write) (p : ProviderState) → FollowsFrom d0 s0 number writes calls p
 followed [] d0 s0 number writes p s before t found is begins =
     now_reported d0 s0 p number s before [] (pending_at p number) writes t.over found is.stands (ap pending_of found) (sym is.matches.over) begins
@@ -172,8 +173,10 @@ module _ (p : ProviderState) (ask : SyncSearch) (number count : ℕ) (calls : Li
       followed calls p.directory (asked p ask) number writes (accepted p ask) (asked p ask) [] none_counted (asked_at p ask number count answered)
       (record { stands = asked_stands p ask; matches = asked_matches p ask }) begins
 
+  -- what it handed out, and what is pending, is its stream
   pub delivers_its_stream : DeliversItsStream p ask number calls
   delivers_its_stream writes begins = (asked_reported writes begins).0
 
+  -- it is over exactly where a write was too much
   pub overflows_exactly : (delivered number (accepted p ask) calls).over ≡ is_over_after number (asked p ask) (accepted p ask) none_counted calls
   overflows_exactly = (asked_reported (run (accepted p ask) calls).directory.writes ([], append-nil (run (accepted p ask) calls).directory.writes)).1

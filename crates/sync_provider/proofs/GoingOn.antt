@@ -16,9 +16,11 @@ pub record HasGoneOn (old new : SearchState) : Type 0 where
   pub persists : new.persists ≡ old.persists
   pub over : old.over ≡ true → new.over ≡ true
 
+-- no write has reached it
 pub gone_on-itself : (s : SearchState) → HasGoneOn s s
 gone_on-itself s = record { spec = refl; persists = refl; over = λ holds. holds }
 
+-- some writes, and then others
 pub gone_on-both : (one two three : SearchState) → HasGoneOn one two → HasGoneOn two three → HasGoneOn one three
 gone_on-both one two three first second = record {
   spec = second.spec ∙ first.spec;

@@ -180,6 +180,7 @@ module _ (spec : Search) (old new : List Entry) (asc_old : ascends old ≡ true)
   touches_are asc_kept =
       changes-filter all_uuids ∙ ap (map (change_at kept_old kept_new)) (same_uuids asc_kept) ∙ sym (changes-filter kept_uuids)
 
+  -- what is said of all touches is what differs between the contents
   pub said_of_kept : ascends kept_old ≡ true → notified_of_changes spec (touched old new) ≡ flat_map plain (touched kept_old kept_new)
   said_of_kept asc_kept = said_alike all_uuids ∙ ap (flat_map plain) (touches_are asc_kept)
 
@@ -229,6 +230,7 @@ last_notified (t ∷ u ∷ entry_changes) cookie steps =
 
 -- ---- a write of a directory
 
+-- the messages for a search are those of its stream
 pub group_is : (d : DirectoryState) (s : SearchState) (w : Write)
     → messages_for s.spec (touched (entries_of d) (entries_after d.history (d.writes ++ w ∷ []))) (cookie_text (cookie_at d.sid d.history w.csn)) ≡ group_of d s w
 group_is d s w =

@@ -28,6 +28,7 @@ use Rattle.sync_provider.proofs.Refreshes.{decided_all, refresh_from-is, group-l
 
 -- ---- histories that begin with a directory's writes
 
+-- writes that begin with one more begin with those before it
 pub begins_before : (d : DirectoryState) (w : Write) (writes : List Write) → BeginsWith (with_write d w) writes → BeginsWith d writes
 begins_before d w writes begins = (w ∷ begins.0, sym (append_assoc d.writes (w ∷ []) begins.0) ∙ begins.1)
 
@@ -46,6 +47,7 @@ called_begins p (Drops number) writes begins = begins
 called_begins p (SetsLogLimit limit) writes begins = begins
 called_begins p (SetsQueueLimit limit) writes begins = begins
 
+-- so they do after some calls
 pub run_begins : (calls : List ProviderCall) (p : ProviderState) (writes : List Write) → BeginsWith (run p calls).directory writes → BeginsWith p.directory writes
 run_begins [] p writes begins = begins
 run_begins (call ∷ calls) p writes begins = called_begins p call writes (run_begins calls (called p call) writes begins)
@@ -83,6 +85,7 @@ pub group_in : (d : DirectoryState) (s : SearchState) (w : Write) (writes : List
 group_in d s w writes begins =
     group-longer s.persists d.sid d.history s.spec (d.writes ++ w ∷ []) begins.0 writes (length d.writes) begins.1 (omega (arith, length-append d.writes (w ∷ [])))
 
+-- one write more sends its messages after those of the others
 pub later_grows : (d : DirectoryState) (s : SearchState) (w : Write) (writes : List Write) → s.accepted ≤ length d.writes → BeginsWith (with_write d w) writes
     → later_of d s (length (d.writes ++ w ∷ [])) writes ≡ later_of d s (length d.writes) writes ++ cond s.persists (group_of d s w) []
 later_grows d s w writes low begins =
@@ -107,9 +110,11 @@ later_grows d s w writes low begins =
 
 -- ---- a search that is the same but for its messages
 
+-- its refresh is the same
 pub refresh_like : (s0 s : SearchState) (d : DirectoryState) (writes : List Write) → IsSame s0 s → refresh_of d s0 writes ≡ refresh_of d s writes
 refresh_like s0 s d writes same i = refresh_from (session_of (sym same.persists i) d.sid d.history (sym same.spec i) writes) (sym same.start i) (sym same.accepted i)
 
+-- so is what later writes send
 pub later_like : (s0 s : SearchState) (d : DirectoryState) (count : ℕ) (writes : List Write) → IsSame s0 s → later_of d s0 count writes ≡ later_of d s count writes
 later_like s0 s d count writes same i =
     cond {A = List SyncMessage} (sym same.persists i)

@@ -18,18 +18,23 @@ Held = List (ℕ × HeldSearch)
 
 -- ---- one of them
 
+-- the search of a number
 pub search_held : (es : Held) (k : ℕ) → search_at (searches_of es) k ≡ option_map (λ held. held.search) (kept_at es k)
 search_held es k = lookup-map_values (λ held. held.search) (is_at (nat_cmp k)) es
 
+-- the one that is kept
 pub search_found : (es : Held) (k : ℕ) (held : HeldSearch) → kept_at es k ≡ Some held → search_at (searches_of es) k ≡ Some held.search
 search_found es k held found = search_held es k ∙ ap (option_map (λ held. held.search)) found
 
+-- what is handed out of it
 pub turn_found : (es : Held) (k : ℕ) (held : HeldSearch) → kept_at es k ≡ Some held → turn_at (searches_of es) k ≡ turn_of_pending held.search.id (pending held.search)
 turn_found es k held found = ap turn_of_found (search_found es k held found)
 
+-- none, where none is kept
 pub search_none : (es : Held) (k : ℕ) → kept_at es k ≡ None → search_at (searches_of es) k ≡ None
 search_none es k found = search_held es k ∙ ap (option_map (λ held. held.search)) found
 
+-- there is one exactly where one is kept
 pub search_some : (es : Held) (k : ℕ) → is_some (search_at (searches_of es) k) ≡ is_some (kept_at es k)
 search_some es k = ap is_some (search_held es k) ∙ by (kept_at es k) where
   by : (found : Option HeldSearch) → is_some (option_map (λ held. held.search) found) ≡ is_some found
@@ -38,6 +43,7 @@ search_some es k = ap is_some (search_held es k) ∙ by (kept_at es k) where
 
 -- ---- after a change of one
 
+-- one is closed
 pub held_closed : (es : Held) (k : ℕ) → searches_of (closed_at es k) ≡ closed_at (searches_of es) k
 held_closed [] k = refl
 held_closed (e ∷ es) k = by (is_at (nat_cmp k) e.0) (held_closed es k) where
@@ -46,6 +52,7 @@ held_closed (e ∷ es) k = by (is_at (nat_cmp k) e.0) (held_closed es k) where
   by true rest = refl
   by false rest = ap (λ xs. (e.0, e.1.search) ∷ xs) rest
 
+-- one is in the place of another
 pub held_put : (es : Held) (k : ℕ) (held : HeldSearch) → searches_of (put_on es k held) ≡ put_on (searches_of es) k held.search
 held_put [] k held = refl
 held_put (e ∷ es) k held = by (is_at (nat_cmp k) e.0) (held_put es k held) where
@@ -54,6 +61,7 @@ held_put (e ∷ es) k held = by (is_at (nat_cmp k) e.0) (held_put es k held) whe
   by true rest = refl
   by false rest = ap (λ xs. (e.0, e.1.search) ∷ xs) rest
 
+-- one is opened
 pub held_opened : (es : Held) (k : ℕ) (held : HeldSearch) → searches_of (insert_entry nat_cmp es k held) ≡ insert_entry nat_cmp (searches_of es) k held.search
 held_opened [] k held = refl
 held_opened (e ∷ es) k held = by (nat_cmp k e.0) (held_opened es k held) where
@@ -64,6 +72,7 @@ held_opened (e ∷ es) k held = by (nat_cmp k e.0) (held_opened es k held) where
   by Equal rest = refl
   by Greater rest = ap (λ xs. (e.0, e.1.search) ∷ xs) rest
 
+-- there are no more searches than are kept
 pub as_many : (es : Held) (n : ℕ) → length es ≤ n → length (searches_of es) ≤ n
 as_many es n few = let same : length (searches_of es) ≡ length es = length-map es (λ held. (held.0, held.1.search)) in omega (arith, same, few)
 
@@ -72,6 +81,7 @@ pub held_put_back : (es : Held) (k : ℕ) (found : Option HeldSearch) → search
 held_put_back es k None = held_closed es k
 held_put_back es k (Some held) = held_opened es k held
 
+-- one comes back
 pub search_back : (es : Held) (k : ℕ) → ComesBack es k → ComesBack (searches_of es) k
 search_back es k back =
     (λ i. put_back (sym (held_closed es k) i) k (search_held es k i))

@@ -40,6 +40,7 @@ use Rattle.directory_writes.proofs.Csns.{upto_low}
 abbrev pub IsLow : DirectoryState → Option ℕ → Type 0
 IsLow d prefix = (number : ℕ) → prefix ≡ Some number → number ≤ length d.writes
 
+-- the number of a cookie is no greater
 pub prefix_low : (d : DirectoryState) (found : Option Cookie) → IsLow d (prefix_of d found)
 prefix_low d None number is = absurd (never is) where
   never : None ≡ Some number → ⊥
@@ -49,6 +50,7 @@ prefix_low d (Some cookie) number is = step (is_ours d cookie) is where
   step true same = let here : upto (csns d.writes) cookie.csn ≡ number = cc in omega (arith, here, upto_low d.writes cookie.csn)
   step false same = let never : ⊥ = cc in absurd never
 
+-- so is that of a cookie's text
 pub asked_low : (d : DirectoryState) (text : Option (List ℕ)) → IsLow d (prefix_of_cookie d text)
 asked_low d None number is = let never : ⊥ = cc in absurd never
 asked_low d (Some text) number is = prefix_low d (cookie_of_text text) number is
@@ -112,6 +114,7 @@ notified_sends P false messages refresh later shows sends = subst (Sends P) (sym
 notified_sends P true messages refresh later shows sends =
     subst (λ ms. Sends P (take (length refresh) ms)) (sym shows.is) (cut_sends P refresh shows.prefix shows.left later shows.split sends)
 
+-- what is sent whole was touched
 pub sends_what_was_touched : (p : ProviderState) (ask : SyncSearch) (number count : ℕ) (calls : List ProviderCall) → answer_to p.directory p.searches ask ≡ Opened number count
     → SendsWhatWasTouched p ask number count calls
 sends_what_was_touched p ask number count calls answered writes begins prefix is =

@@ -192,6 +192,7 @@ module _ (old : JournalledProvider) (p : ProviderState) (j : JournalState) (seen
     on : new ≡ record p { searches = handed_on p.searches number (search_at p.searches number) }
     on = left_by (Some (Hands whole)) is
 
+    -- a message is the reply that is due there
     pub message_seen : IsAnswered new after (HandOutReplies (port_state old) number result)
     message_seen =
         let goes : IsPort (with_journal new after) (after_turn_in (port_state was) number (followed_in was number) (Some (Hands whole))) =
@@ -219,6 +220,7 @@ module _ (old : JournalledProvider) (p : ProviderState) (j : JournalState) (seen
           (ended_port p j has number count new after left nothing counted s found (h + 1) (handed_at j.handed number + 1) all h over same over_is noted).port,
         )
 
+    -- so is the end of a search
     pub end_seen : IsAnswered new after (HandOutReplies (port_state old) number result)
     end_seen =
         let both = end_by (search_at p.searches number) refl (turn_now (Closes code whole) is) overflow in

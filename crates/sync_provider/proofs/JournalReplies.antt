@@ -117,6 +117,7 @@ pub write_seen : (old : JournalledProvider) (p : ProviderState) (j : JournalStat
 write_seen old p j seen has op now reply new leaves =
     subst (λ v. IsAnswered new j (WriteReplies (port_state v) op now reply)) seen (write_answered p j has op now reply new leaves)
 
+-- what a commit answers is due there
 pub commit_seen : (old : JournalledProvider) (p : ProviderState) (j : JournalState) → with_journal p j ≡ old → HasJournal p j
     → (puts : List Entry) (drops : List ℕ) (now : ℕ) (result : Result ℕ CommitFault) (new : ProviderState) → CommitLeaves p puts drops now result new
     → IsAnswered new j (CommitReplies (port_state old) puts drops now result)
@@ -125,6 +126,7 @@ commit_seen old p j seen has puts drops now result new leaves =
 
 -- ---- another limit of the log
 
+-- the journal stays
 pub log_limited_kept : (p : ProviderState) (j : JournalState) → HasJournal p j → (limit : ℕ) → HasJournal (log_limited p limit) j
 log_limited_kept p j has limit = record {
   journalled = record {
@@ -158,9 +160,11 @@ module _ (p : ProviderState) (ask : SyncSearch) (number count : ℕ) (new : Prov
   opened_found : search_at new.searches number ≡ Some (asked p ask)
   opened_found = ap (λ s. search_at s.searches number) leaves.state ∙ opened-same p.searches number (asked p ask)
 
+  -- a search that was opened is open
   pub opened_is_open : is_some (search_at new.searches number) ≡ true
   opened_is_open = ap is_some opened_found
 
+  -- it has the specification that was asked for
   pub opened_spec : (copy : Search) → copy ≡ search_of ask.spec → IfSome (search_at new.searches number) (λ s. copy ≡ s.spec)
   opened_spec copy same = subst (λ found. IfSome found (λ s. copy ≡ s.spec)) (sym opened_found) same
 
@@ -180,9 +184,11 @@ module _ (old : JournalledProvider) (p : ProviderState) (j between : JournalStat
   port_before : (new : ProviderState) → new ≡ p → port_state (with_journal new between) ≡ port_state old
   port_before new is = ap (λ s. port_state (with_journal s between)) is ∙ ap port_state same
 
+  -- out of memory nothing is opened
   pub unopened_seen : (new : ProviderState) → new ≡ p → IsAnswered new between (AcceptReplies (port_state old) ask accepted.NoMemory)
   unopened_seen new is = record { kept = as_before new is; replies = record { answer = tt; state = port_before new is } }
 
+  -- what is refused is due there
   pub refused_seen : (code : ℕ) (new : ProviderState) → AcceptLeaves p ask (accepted.Refused code) new → IsAnswered new between (AcceptReplies (port_state old) ask (accepted.Refused code))
   refused_seen code new leaves =
       subst (λ v. IsAnswered new between (AcceptReplies (port_state v) ask (accepted.Refused code))) seen
@@ -220,6 +226,7 @@ module _ (old : JournalledProvider) (p : ProviderState) (j between : JournalStat
       handed = after.handed;
     }
 
+    -- so is an opening
     pub opened_seen : length p.searches + 2 ≤ between.spare → IsAnswered new after (AcceptReplies (port_state old) ask (accepted.Opened number count))
     opened_seen room =
         subst (λ v. IsAnswered new after (AcceptReplies (port_state v) ask (accepted.Opened number count))) seen

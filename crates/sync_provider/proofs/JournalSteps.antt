@@ -98,6 +98,7 @@ module _ (v : JournalledProvider) (is : IsJournalled v) (w : Write) where
       by (Some was) found is_there =
           subst (λ x. x.over ≡ false → HasHandedOut (with_write d w) x (handed_at v.handed n)) (same_Some (search_notified limit d w was) s is_there) (matched n was found).counted
 
+  -- what the provider knows as a port has the write noted
   pub write_goes : IsPort after_write (noted (port_state v) (notes.Wrote w) 0)
   write_goes = record {
     journalled = record {
@@ -191,6 +192,7 @@ module _ (v : JournalledProvider) (is : IsJournalled v) (ask : SyncSearch) (numb
   begun : (s : SearchState) → Some search ≡ Some s → s.over ≡ false → HasHandedOut v.state.directory s 0
   begun s same = subst (λ x. x.over ≡ false → HasHandedOut v.state.directory x 0) (same_Some search s same) (asked_matches v.state ask).counted
 
+  -- it follows the search
   pub open_goes : IsPort after_open (opened_in (port_state v) opening)
   open_goes = record {
     journalled = record {
@@ -261,6 +263,7 @@ module _ (v : JournalledProvider) (is : IsJournalled v) (number : ℕ) (s : Sear
     over = advanced_over s s.rest s.due i;
   }
 
+  -- it counts the message
   pub message_goes : IsPort after_message (handed_in (port_state v) number f)
   message_goes = record {
     journalled = record {
@@ -306,6 +309,7 @@ module _ (v : JournalledProvider) (is : IsJournalled v) (number handed count : �
   none_begun : (s : SearchState) → None ≡ Some s → s.over ≡ false → HasHandedOut v.state.directory s now
   none_begun s e = absurd (none-some s e)
 
+  -- it follows the search no more
   pub end_goes : IsPort after_end (ended_in (port_state v) number end)
   end_goes = record {
     journalled = record {

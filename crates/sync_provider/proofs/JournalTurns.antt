@@ -57,6 +57,7 @@ pending_is d number s count out = by s.over refl
         pending_open s off ∙ left_is d number s count (out off)
         ∙ sym (ap (λ b. cond b (busy_end ∷ []) (drop count (stream_in d (opening_of_search number s)))) off)
 
+-- whichever its number is
 pub turn_is : (v : JournalledProvider) → IsJournalled v → (number : ℕ) → turn_at v.state.searches number ≡ turn_in v.state.directory (followed_in v number)
 turn_is v is number = by (search_at v.state.searches number) refl
   where

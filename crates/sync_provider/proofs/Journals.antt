@@ -1,5 +1,5 @@
 -- The journal of a provider as a list: the order of its events, its length, and what an entry adds to it.
-use Rattle.std.proofs.Common.{◌≡◌, ◌≤◌, ℕ, zero, suc, ◌+◌, ◌-◌, Bool, false, cond, List, [], ◌∷◌, ◌++◌, length, map, take, drop, Some, None, refl, ap, sym, ◌∙◌, subst, arith, append_assoc, length-append, Option}
+use Rattle.std.proofs.Common.{◌≡◌, ◌≤◌, ℕ, inl, inr, zero, suc, ◌+◌, ◌-◌, Bool, false, cond, List, [], ◌∷◌, ◌++◌, length, map, take, drop, Some, None, refl, ap, sym, ◌∙◌, subst, arith, append_assoc, length-append, Option}
 use Rattle.std.specs.Prelude.{is_some, not, find, slice_get, Result, Ok, Err, option_map}
 use Rattle.std.proofs.lemmas.List.{length-map, map-append, length-drop, take-append-drop, take-append-le, drop-append-le, take_all, drop_all}
 use Rattle.entry_tree.specs.declared.op.Write.{Write}
@@ -9,8 +9,8 @@ use Rattle.sync_messages.specs.declared.request.SyncRequest.{SyncRequest}
 use Rattle.directory_writes.specs.Directory.{DirectoryState}
 use Rattle.sync_provider.specs.Accepting.{free_number, numbers_from, answer_to_request, answer_to}
 use Rattle.sync_provider.specs.HandingOut.{has_message, search_at, turn_of_pending}
-use Rattle.sync_provider.specs.Journal.{note_of, journal_from, journal_of, AreInOrder, JournalledProvider, numbered, journal_in, IsJournalled}
-use Rattle.sync_provider.specs.Ports.{Journal, PortState, write_in, writes_in, open_after, open_from, is_open, free_in, answer_by, IsReplied}
+use Rattle.sync_provider.specs.Journal.{port_state, note_of, journal_from, journal_of, AreInOrder, JournalledProvider, numbered, journal_in, IsJournalled}
+use Rattle.sync_provider.specs.Ports.{Journal, PortState, write_in, writes_in, open_after, open_from, is_open, free_in, answer_by, IsReplied, CanMeet, HasMet}
 use Rattle.sync_provider.specs.Search.{SearchState, pending}
 use Rattle.sync_provider.specs.declared.journal_note.JournalNote.{JournalNote}
 use Rattle.sync_provider.specs.declared.journal_note.JournalNote.TheVariants as notes
@@ -22,13 +22,24 @@ use Rattle.sync_provider.proofs.Turns.{none_turn}
 
 -- ---- what is pending of a search
 
+-- where nothing is pending there is no message
 pub none_has_message : (s : SearchState) → s.over ≡ false → s.rest ≡ [] → slice_get s.due 0 ≡ None → has_message (turn_of_pending s.id (pending s)) ≡ false
 none_has_message s off none first = ap has_message (none_turn s off none first)
 
 -- ---- a provider by itself sees no entries of other ports
 
+-- so its reply is one with nothing before it
 pub replied_alone : (p : PortState) (Replies : PortState → Type 0) → Replies p → IsReplied p Replies
 replied_alone p Replies replies = record { place = p; later = record { entries = []; others = λ k d low. absurd (omega (arith, low)); is = refl }; replies = replies }
+
+-- and it learns nothing where it meets another one
+pub met_alone : (v other : JournalledProvider) → CanMeet (port_state v) (port_state other)
+    → HasMet (port_state v) (port_state other) (port_state v)
+met_alone v other (inl shared) = absurd (omega (arith, shared))
+met_alone v other (inr seen) = record {
+  later = record { entries = []; others = λ k d low. absurd (omega (arith, low)); is = refl };
+  seen = seen;
+}
 
 -- ---- the events in their order
 
@@ -36,10 +47,12 @@ in_order_low : (low high : ℕ) (events : List SearchEvent) → AreInOrder low h
 in_order_low low high [] h = h
 in_order_low low high (e ∷ events) h = let rest : e.writes ≤ high = in_order_low e.writes high events h.1 in omega (arith, h.0, rest)
 
+-- events up to some writes are so up to more
 pub in_order_more : (low high more : ℕ) (events : List SearchEvent) → high ≤ more → AreInOrder low high events → AreInOrder low more events
 in_order_more low high more [] least h = omega (arith, h, least)
 in_order_more low high more (e ∷ events) least h = (h.0, in_order_more e.writes high more events least h.1)
 
+-- one more at the end
 pub in_order_snoc : (low high : ℕ) (events : List SearchEvent) (e : SearchEvent) → AreInOrder low high events → e.writes ≡ high → AreInOrder low high (events ++ e ∷ [])
 in_order_snoc low high [] e h at = (omega (arith, h, at), omega (arith, at))
 in_order_snoc low high (f ∷ events) e h at = (h.0, in_order_snoc f.writes high events e h.1 at)
@@ -67,6 +80,7 @@ module _ (k : ℕ) (ws : List Write) (e : SearchEvent) (events : List SearchEven
       let few : length (drop before ws) ≡ length ws - before = length-drop before ws in
       omega (arith, few, h.0, rest)
 
+-- a write comes last
 pub journal_write : (events : List SearchEvent) (k : ℕ) (ws : List Write) (w : Write) → AreInOrder k (k + length ws) events
     → journal_from k (ws ++ w ∷ []) events ≡ journal_from k ws events ++ notes.Wrote w ∷ []
 journal_write [] k ws w h = map-append notes.Wrote ws (w ∷ [])
@@ -81,6 +95,7 @@ journal_write (e ∷ events) k ws w h =
     low : n ≤ length ws
     low = within k ws e events h
 
+-- an event comes last
 pub journal_event : (events : List SearchEvent) (k : ℕ) (ws : List Write) (e : SearchEvent) → AreInOrder k (k + length ws) events → e.writes ≡ k + length ws
     → journal_from k ws (events ++ e ∷ []) ≡ journal_from k ws events ++ note_of e.change ∷ []
 journal_event [] k ws e h at =
@@ -99,6 +114,7 @@ parts_length zero ws = omega arith
 parts_length (suc n) [] = refl
 parts_length (suc n) (w ∷ ws) = let rest : length (take n ws) + length (drop n ws) ≡ length ws = parts_length n ws in omega (arith, rest)
 
+-- there are as many entries as writes and events
 pub journal_length : (events : List SearchEvent) (k : ℕ) (ws : List Write) → length (journal_from k ws events) ≡ length ws + length events
 journal_length [] k ws = let all : length (map notes.Wrote ws) ≡ length ws = length-map ws notes.Wrote in omega (arith, all)
 journal_length (e ∷ events) k ws =
@@ -154,6 +170,7 @@ noted_event v is e at =
     ap numbered (journal_event v.events 0 v.state.directory.writes e (ordered_from v is) (at ∙ from_none v))
     ∙ map-append (λ note. (note, 0)) (journal_of v.state.directory.writes v.events) (note_of e.change ∷ [])
 
+-- so the journal is as long as both
 pub journal_counts : (writes : List Write) (events : List SearchEvent) → length writes + length events ≡ length (journal_of writes events)
 journal_counts writes events = sym (journal_length events 0 writes)
 

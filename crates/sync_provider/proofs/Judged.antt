@@ -67,12 +67,14 @@ called_rises p (Drops number) rise = rise
 called_rises p (SetsLogLimit limit) rise = rise
 called_rises p (SetsQueueLimit limit) rise = rise
 
+-- sound calls leave writes that were accepted
 pub run_accepted : (calls : List ProviderCall) (p : ProviderState) → list_all is_sound_call calls ≡ true → HasAccepted p.directory → HasAccepted (run p calls).directory
 run_accepted [] p sound each = each
 run_accepted (call ∷ calls) p sound each =
     let parts = and_parts (is_sound_call call) (list_all is_sound_call calls) sound in
     run_accepted calls (called p call) parts.1 (called_accepted p call parts.0 each)
 
+-- calls leave CSNs that rise
 pub run_rises : (calls : List ProviderCall) (p : ProviderState) → HasRisen p.directory → HasRisen (run p calls).directory
 run_rises [] p rise = rise
 run_rises (call ∷ calls) p rise = run_rises calls (called p call) (called_rises p call rise)
@@ -90,6 +92,7 @@ called_same p (Drops number) = record { suffix = refl; sid = refl; history = ref
 called_same p (SetsLogLimit limit) = record { suffix = refl; sid = refl; history = refl }
 called_same p (SetsQueueLimit limit) = record { suffix = refl; sid = refl; history = refl }
 
+-- suffix, history and server id
 pub run_same : (calls : List ProviderCall) (p : ProviderState) → IsSameDirectory p.directory (run p calls).directory
 run_same [] p = record { suffix = refl; sid = refl; history = refl }
 run_same (call ∷ calls) p =

@@ -79,6 +79,7 @@ request_free d es request number count within = by_base within
     by_base true e = by_number (free_number es) refl e
     by_base false e = absurd (refused NO_SUCH_OBJECT e)
 
+-- the number that it gets was free
 pub opened_free : (d : DirectoryState) (es : List (ℕ × SearchState)) (ask : SyncSearch) (number count : ℕ) → answer_to d es ask ≡ Opened number count → IsFree d es number count
 opened_free d es ask number count = by_request (request_of ask.control)
   where
@@ -91,6 +92,7 @@ opened_free d es ask number count = by_request (request_of ask.control)
 
 -- ---- a search while other calls are made
 
+-- it stays where another one is asked for
 pub answered_other : (d : DirectoryState) (es : List (ℕ × SearchState)) (ask : SyncSearch) (answer : Accepted) → answer_to d es ask ≡ answer → (number : ℕ) (s : SearchState)
     → search_at es number ≡ Some s → search_at (accepting.after_answer d es ask answer) number ≡ Some s
 answered_other d es ask (Opened other count) is number s found = opened-other es other number _ far ∙ found
@@ -116,6 +118,7 @@ turn_other es k q Unknown far = refl
 
 -- ---- its own turn
 
+-- a message that ends nothing is handed out as it is
 pub hands : (id : ℕ) (m : SyncMessage) → is_end m ≡ false → turn_of_message id m ≡ Hands (sent id m)
 hands id (AddOrModify adds entry cookie) h = refl
 hands id (Delete uuid name cookie) h = refl
@@ -147,6 +150,7 @@ next_turn es number s m rest found first goes =
 
 -- ---- the search that is asked for
 
+-- it is open then
 pub asked_at : (p : ProviderState) (ask : SyncSearch) (number count : ℕ) → answer_to p.directory p.searches ask ≡ Opened number count
     → search_at (accepted p ask).searches number ≡ Some (asked p ask)
 asked_at p ask number count answered =

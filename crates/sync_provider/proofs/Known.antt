@@ -36,6 +36,7 @@ called_logged p (SetsLogLimit limit) is =
     IsLogOf-trimmed (all_notes (state_of p.directory.history p.directory.writes) (length p.directory.writes)) p.directory.log limit is
 called_logged p (SetsQueueLimit limit) is = is
 
+-- the log is that of the writes
 pub run_logged : (calls : List ProviderCall) (p : ProviderState) → HasLogged p.directory → HasLogged (run p calls).directory
 run_logged [] p is = is
 run_logged (call ∷ calls) p is = run_logged calls (called p call) (called_logged p call is)
@@ -47,6 +48,7 @@ over_longer d writes begins number =
     ap (λ ws. touched_over d.history ws number (length d.writes)) (sym begins.1)
     ∙ over-agree_upto (state_of d.history (d.writes ++ begins.0)) (state_of d.history d.writes) number (length d.writes) (agree-longer d.history d.writes begins.0)
 
+-- so it shows what was touched
 pub shows_of_log : (d : DirectoryState) → HasLogged d → LogShows d
 shows_of_log d is = (
   λ writes begins number covered within.
@@ -55,6 +57,7 @@ shows_of_log d is = (
   le-leb d.log.floor (length d.writes) (floor-low (state_of d.history d.writes) (length d.writes) d.log is),
 )
 
+-- so do the numbers
 pub shows_of_numbers : (d : DirectoryState) → NumberShows d
 shows_of_numbers d writes begins number uuid within =
     last-shows (length d.writes) (state_of d.history d.writes) number uuid within

@@ -45,6 +45,7 @@ pub mod Returns
 pub mod Rooted
 pub mod Saying
 pub mod SearchCalls
+pub mod Several
 pub mod Sets
 pub mod StreamTurns
 pub mod Streams

@@ -26,6 +26,7 @@ module _ (number : ℕ) (persists : Bool) (search : Search) (writes : List Write
   abbrev pub new : SyncOperation
   new = session_of persists number number search (one_more writes w)
 
+  -- the contents up to the last write but one
   pub content_same : (n : ℕ) → n ≤ length writes → content_after new n ≡ content_after old n
   content_same n low = ap (select search) (agree-longer number writes (w ∷ []) n low)
 

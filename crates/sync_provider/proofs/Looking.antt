@@ -55,6 +55,7 @@ each-at P (e ∷ es) k s each found = by (each-at P es k s each.1) (is_at (nat_c
     by rest true hit = subst P (same (sym (ap (λ b. cond b (Some e.1) (search_at es k)) hit) ∙ found)) each.0
     by rest false miss = rest (sym (ap (λ b. cond b (Some e.1) (search_at es k)) miss) ∙ found)
 
+-- what follows of each holds of each
 pub each-weaker : (P Q : SearchState → Type 0) (es : Searches) → ((s : SearchState) → P s → Q s) → EachSearch P es → EachSearch Q es
 each-weaker P Q [] h each = tt
 each-weaker P Q (e ∷ es) h each = (h e.1 each.0, each-weaker P Q es h each.1)

@@ -108,6 +108,7 @@ module _ (s0 : SearchState) (limit : ℕ) (d : DirectoryState) (w : Write) (s : 
       by true true goes on = ap (λ b. b || (s0.persists && is_too_much limit d s0 w t.handed)) (matches.over ∙ on) ∙ sym on
       by true false goes off = over_by goes off ∙ sym (pushed_over off (group_of d s w))
 
+  -- it is over then, where the write was too much
   pub search_notified_match : Matches s0 after (search_notified limit d w s) (record t { over = over_now })
   search_notified_match = record {
     same = same_then s0 s (search_notified limit d w s) matches.same (search_notified_same limit d w s);
@@ -154,6 +155,7 @@ module _ (s0 : SearchState) (p : ProviderState) (s : SearchState) (t : Tally) (m
           let nothing : length (s.rest ++ s.due) ≡ 0 = ap length (sym (pending_open s off) ∙ none) in
           subst (Matches s0 d s) (sym (counted_by off false (le-ltb t.handed (length (stream_of d s0 (length d.writes) d.writes)) (omega (arith, nothing, long off))))) matches
 
+  -- a hand-out leaves that as it was
   pub next_match : (m : SyncMessage) (ms : List SyncMessage) → pending s ≡ m ∷ ms → is_end m ≡ false → Matches s0 d (without_first s) (after_hand_out p s0 t)
   next_match m ms first goes =
       subst (Matches s0 d (without_first s)) (sym (counts off some)) (record {
@@ -224,6 +226,7 @@ stays_over (Drops other ∷ calls) number s0 p t over is why = by (stays_over ca
 
 -- ---- another limit of the log
 
+-- it changes no search
 pub limited_match : (s0 : SearchState) (d : DirectoryState) (limit : ℕ) (s : SearchState) (t : Tally) → Matches s0 d s t → Matches s0 (with_log_limit d limit) s t
 limited_match s0 d limit s t matches = record {
   same = matches.same;
@@ -233,6 +236,7 @@ limited_match s0 d limit s t matches = record {
 
 -- ---- its acceptance
 
+-- at first it is not over
 pub asked_matches : (p : ProviderState) (ask : SyncSearch) → Matches (asked p ask) p.directory (asked p ask) (record { handed = 0; over = false })
 asked_matches p ask = record {
   same = same_search (asked p ask) (asked p ask).rest (asked p ask).due (asked p ask).over;

@@ -238,6 +238,7 @@ module _ (operation : SyncOperation) (ascending : Ascending operation) (within :
             ∙ ap (taken_within 1 (stepping 1 is.ended old held.cookie (staged_all [] is.before))) (sym here)
             ∙ midway_staged old new (ascends-content operation ascending is.number) (ascends-content operation ascending (is.number + 1)) (content_within operation ascending within (is.number + 1)) is.before is.after is.entry_change one is.ended held.cookie is.at
 
+    -- it is one of the messages of a later write
     pub group_comes : Comes entries held m rest
     group_comes = by is.after refl
       where

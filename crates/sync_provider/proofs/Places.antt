@@ -39,6 +39,7 @@ module _ (limit : ℕ) (d : DirectoryState) (w : Write) (s : SearchState) (hande
   queued : IsQueued s (search_notified limit d w s) (cond s.persists (group_of d s w) [])
   queued = search_notified_queued limit d w s still
 
+  -- what it sends is the next part of the stream
   pub search_notified_place : IsAtItsPlace (with_write d w) (search_notified limit d w s) handed handed_later
   search_notified_place = record {
     within = subst (λ n. n ≤ length (d.writes ++ w ∷ [])) (sym same.accepted) (omega (arith, place.within, length-append d.writes (w ∷ [])));
@@ -77,6 +78,7 @@ judged_places p (Err code) each = each
 
 -- ---- a search that is accepted
 
+-- it stands at the beginning of its stream
 pub opening_place : (d : DirectoryState) (id : ℕ) (spec : Search) (start : Start) (persists : Bool) → IsAtItsPlace d (opening d id spec start persists) [] []
 opening_place d id spec start persists = record {
   within = omega arith;
@@ -192,6 +194,7 @@ called_places p (SetsLogLimit limit) each =
     each-weaker (KeepsItsPlace p.directory) (KeepsItsPlace (with_log_limit p.directory limit)) p.searches (λ s keeps off. limited_placed p.directory limit s (keeps off)) each
 called_places p (SetsQueueLimit limit) each = each
 
+-- each search stays at its place
 pub run_places : (calls : List ProviderCall) (p : ProviderState) → EachSearch (KeepsItsPlace p.directory) p.searches → EachSearch (KeepsItsPlace (run p calls).directory) (run p calls).searches
 run_places [] p each = each
 run_places (call ∷ calls) p each = run_places calls (called p call) (called_places p call each)

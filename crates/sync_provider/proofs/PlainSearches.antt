@@ -15,9 +15,11 @@ by_base : (entries : List Entry) (ask : PlainSearch) (found : Option Entry) → 
     → reply_to entries ask ≡ cond (is_some found) (limited ask.size_limit (select (search_of ask.spec) entries)) NoSuchBase
 by_base entries ask found is = ap (λ e. cond (is_some e) (limited ask.size_limit (select (search_of ask.spec) entries)) NoSuchBase) is
 
+-- it has no entry
 pub no_base : (entries : List Entry) (ask : PlainSearch) → entry_named entries ask.spec.base ≡ None → reply_to entries ask ≡ NoSuchBase
 no_base entries ask none = by_base entries ask None none
 
+-- it has one
 pub with_base : (entries : List Entry) (ask : PlainSearch) (e : Entry) → entry_named entries ask.spec.base ≡ Some e
     → reply_to entries ask ≡ limited ask.size_limit (select (search_of ask.spec) entries)
 with_base entries ask e there = by_base entries ask (Some e) there
@@ -27,9 +29,11 @@ with_base entries ask e there = by_base entries ask (Some e) there
 by_limit : (limit : ℕ) (found : List Entry) (over : Bool) → is_over limit found ≡ over → limited limit found ≡ cond over (Over (take limit found)) (Found found)
 by_limit limit found over is = ap (λ b. cond b (Over (take limit found)) (Found found)) is
 
+-- not too many are found
 pub within_limit : (limit : ℕ) (found : List Entry) → is_over limit found ≡ false → limited limit found ≡ Found found
 within_limit limit found within = by_limit limit found false within
 
+-- too many are found
 pub over_limit : (limit : ℕ) (found : List Entry) → is_over limit found ≡ true → limited limit found ≡ Over (take limit found)
 over_limit limit found over = by_limit limit found true over
 

@@ -30,10 +30,11 @@ use Rattle.sync_provider.specs.declared.ready_commit.ReadyCommit.{ReadyCommit}
 
 -- a commit is ready where nothing rejects it by what is kept beside the writes, and this is kept after it
 pub ready_commit_is : (d : DirectoryState) (s : StandingState) (now : ℕ) (commit : ReadyCommit) (staged : StagedCommit) → IsStanding d s → list_all is_sound_put staged.puts ≡ true → list_all is_within_entry_limit staged.puts ≡ true
-    → IsCommitPreview s staged.puts staged.drops now commit.ready.preview → commit.op ≡ Commit staged.puts staged.drops → commit.ready.after ≡ standing_after s commit.ready.preview → IsReadyCommit d now commit staged
+    → IsCommitPreview s staged.puts staged.drops now commit.ready.preview → commit.op ≡ Commit staged.puts staged.drops → commit.ready.after ≡ standing_after s commit.op commit.ready.preview → IsReadyCommit d now commit staged
 ready_commit_is d s now commit staged is sound light plan same after = record {
   op = same;
-  ready = subst (λ (op : Op). IsReadyWrite d op commit.ready) (sym same) (ready_is d s (Commit staged.puts staged.drops) commit.ready.preview commit.ready is planned refl after);
+  ready = subst (λ (op : Op). IsReadyWrite d op commit.ready) (sym same) (ready_is d s (Commit staged.puts staged.drops) commit.ready.preview commit.ready is planned refl
+      (after ∙ ap (λ (op : Op). standing_after s op commit.ready.preview) same));
   unopposed = plan_unopposed d s staged.puts staged.drops now commit.ready.preview is plan;
   judged = plan_judged d s staged.puts staged.drops now commit.ready.preview is plan ∙ (λ i. Ok (record { csn = commit.ready.preview.csn; op = sym same i }));
 }
@@ -43,11 +44,13 @@ ready_commit_is d s now commit staged is sound light plan same after = record {
 
 -- ---- some commits
 
+-- each of them is a ready write
 pub are_ready : (now : ℕ) (d : DirectoryState) (each : List ReadyCommit) (commits : List StagedCommit) → AreReadyCommits now d each commits → AreReady d each
 are_ready now d [] commits are = tt
 are_ready now d (commit ∷ each) [] are = absurd are
 are_ready now d (commit ∷ each) (staged ∷ commits) are = (are.0.ready, are_ready now (with_write d (write_of commit)) each commits are.1)
 
+-- there are as many as stages
 pub as_many_ready : (now : ℕ) (d : DirectoryState) (each : List ReadyCommit) (commits : List StagedCommit) → AreReadyCommits now d each commits → length each ≡ length commits
 as_many_ready now d [] [] are = refl
 as_many_ready now d [] (staged ∷ commits) are = absurd are
@@ -61,6 +64,7 @@ after_length d (commit ∷ each) = omega (arith, after_length (with_write d (wri
 
 -- ---- one commit more
 
+-- it is ready on what the others leave
 pub are_ready-push : (now : ℕ) (d : DirectoryState) (each : List ReadyCommit) (commits : List StagedCommit) (commit : ReadyCommit) (staged : StagedCommit) → AreReadyCommits now d each commits
     → IsReadyCommit (after_each d each) now commit staged → AreReadyCommits now d (each ++ commit ∷ []) (commits ++ staged ∷ [])
 are_ready-push now d [] [] commit staged are is = (is, tt)
@@ -68,6 +72,7 @@ are_ready-push now d [] (other ∷ commits) commit staged are is = absurd are
 are_ready-push now d (first ∷ each) [] commit staged are is = absurd are
 are_ready-push now d (first ∷ each) (other ∷ commits) commit staged are is = (are.0, are_ready-push now (with_write d (write_of first)) each commits commit staged are.1 is)
 
+-- its messages stand after those of the others
 pub all_staged-push : (sid history : ℕ) (each : List ReadyCommit) (commit : ReadyCommit) (held : List (ℕ × HeldSearch))
     → all_staged sid history (each ++ commit ∷ []) held
     ≡ each_staged commit.ready.preview.touched (cookie_text (cookie_at sid history commit.ready.preview.csn)) (all_staged sid history each held)

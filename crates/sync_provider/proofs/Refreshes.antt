@@ -30,6 +30,7 @@ decided_all operation start count = flat_map (decide operation start count) (wal
 abbrev pub notified_of : SyncOperation → Start → ℕ → List WalkDecision → List SyncMessage
 notified_of operation start count decisions = gathered (is_delete_phase start) decisions ++ end_of operation.persists (is_delete_phase start) (operation.cookies count) ∷ []
 
+-- it is what is said of all decisions at the number of writes
 pub refresh_from-is : (operation : SyncOperation) (start : Start) (count : ℕ) → refresh_from operation start count ≡ notified_of operation start count (decided_all operation start count)
 refresh_from-is operation start count =
     ap (λ late. gathered (is_delete_phase start) (decided_all operation start count ++ []) ++ after_walk operation (is_delete_phase start) count late) (no_late operation count)
@@ -60,6 +61,7 @@ module _ (persists : Bool) (spec : Search) (f g : ℕ → List Entry) (c d : ℕ
   decides : (start : Start) → decided_all one start count ≡ decided_all other start count
   decides start i = flat_map (λ u. decided (is_delete_phase start) (sent start u i) u (entry_at (select spec (now i)) u)) (walks start i)
 
+  -- their refreshes up to there are the same
   pub refresh-agrees : (start : Start) → refresh_from one start count ≡ refresh_from other start count
   refresh-agrees start =
       refresh_from-is one start count
@@ -86,6 +88,7 @@ refresh-longer persists sid history spec start_at writes more whole count is low
     ∙ refresh-agrees persists spec (state_of history (writes ++ more)) (state_of history writes) (cookie_after sid history (writes ++ more)) (cookie_after sid history writes) count
     (λ n least. agree-longer history writes more n (omega (arith, least, low))) (cookie-longer sid history writes more count low) start_at
 
+-- the messages of a write do not depend on later ones
 pub group-longer : (persists : Bool) (sid history : ℕ) (spec : Search) (writes more whole : List Write) (before : ℕ) → writes ++ more ≡ whole → before + 1 ≤ length writes
     → group (session_of persists sid history spec whole) before ≡ group (session_of persists sid history spec writes) before
 group-longer persists sid history spec writes more whole before is low =

@@ -74,6 +74,7 @@ call_counts old new (Dropped number result) is = is.state
 call_counts old new (LimitedLog limit) is = is
 call_counts old new (LimitedQueue limit) is = is
 
+-- those that were refused count as none
 pub refusals_count : (old new : ProviderState) (answered : List Answered) → Leads old answered new → new ≡ run old (flat_map calls_of answered)
 refusals_count old new [] is = is
 refusals_count old new (call ∷ answered) (between, here, later) =

@@ -17,6 +17,7 @@ use Rattle.sync_provider.specs.Search.{SearchState}
 use Rattle.sync_provider.proofs.Ascending.{ascends-opened, same_maps}
 use Rattle.sync_provider.proofs.CountedCalls.{Follows, AreFirst, IsBeside, LeadsBeside, made_fits, follows_run, follows_more, calls_lead}
 
+-- some calls, and then others
 pub run_append : (p : ProviderState) (one two : List ProviderCall) → run p (one ++ two) ≡ run (run p one) two
 run_append p [] two = refl
 run_append p (call ∷ one) two = run_append (called p call) one two
@@ -136,6 +137,7 @@ all_count first (step ∷ steps) before stage ascends is each may =
     let next : Goes first stage.calls (stepped (stage ∷ before) stage step) = step_goes first (stage ∷ before) stage step ascends is here may.0 in
     all_count first steps (stage ∷ before) (stepped (stage ∷ before) stage step) ascends next.follows (each_goes first stage.calls (stepped (stage ∷ before) stage step) next (stage ∷ before) here) may.1
 
+-- a provider is as after the calls that count
 pub returns_count : (p : ProviderState) (steps : List ReturnStep) → Ascends 0 p.searches → MayStepAll [] (first_stage p) steps
     → (stepped_all [] (first_stage p) steps).provider ≡ run p (counted (stepped_all [] (first_stage p) steps).calls)
 returns_count p steps ascends may = all_count p steps [] (first_stage p) ascends refl tt may

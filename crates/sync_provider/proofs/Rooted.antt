@@ -59,6 +59,7 @@ some_left : (p : ProviderState) (commits : List StagedCommit) (now : ℕ) → re
 some_left p [] now is = let never : ⊥ = cc in absurd never
 some_left p (commit ∷ commits) now is = omega arith
 
+-- where commits are refused for it, the provider is a root
 pub only_root : (p : ProviderState) (commits : List StagedCommit) (now : ℕ) → refusal_of_each p commits now ≡ Some NotAReplica → (p.kind ≡ Root) × (0 < length commits)
 only_root p commits now is = (each_root p commits now is, some_left p commits now is)
 
@@ -67,6 +68,7 @@ pub none_refused : (p : ProviderState) (commits : List StagedCommit) (now : ℕ)
 none_refused p [] now none = refl
 none_refused p (commit ∷ commits) now none = absurd (omega (arith, none))
 
+-- no commits leave it as it is
 pub none_committed : (p : ProviderState) (commits : List StagedCommit) (now : ℕ) → length commits ≡ 0 → p ≡ committed_each p commits now
 none_committed p [] now none = refl
 none_committed p (commit ∷ commits) now none = absurd (omega (arith, none))

@@ -47,11 +47,13 @@ said_left search uuid was now was_in before after = by was before ∙ none (if_s
 
 -- ---- the cookie
 
+-- it stands on the last message alone
 pub last_push : (cookie : CookieText) (messages : List SyncMessage) (last : SyncMessage) → last_with_cookie cookie (messages ++ last ∷ []) ≡ messages ++ with_cookie cookie last ∷ []
 last_push cookie [] last = refl
 last_push cookie (m ∷ []) last = refl
 last_push cookie (m ∷ n ∷ ms) last = ap (λ l. m ∷ l) (last_push cookie (n ∷ ms) last)
 
+-- a message of a change with another cookie
 pub change_marked : (change : ContentChange) (cookie : CookieText) (old : Option CookieText) → with_cookie cookie (message_of_change change old) ≡ message_of_change change (Some cookie)
 change_marked (Added entry) cookie old = refl
 change_marked (Modified entry) cookie old = refl

@@ -31,6 +31,7 @@ pub record IsSame (s after : SearchState) : Type 0 where
 abbrev pub same_search : (s : SearchState) (rest due : List SyncMessage) (over : Bool) → IsSame s (record s { rest = rest; due = due; over = over })
 same_search s rest due over = record { id = refl; spec = refl; start = refl; accepted = refl; persists = refl }
 
+-- it is, after two steps
 pub same_then : (s between after : SearchState) → IsSame s between → IsSame between after → IsSame s after
 same_then s between after one two = record {
   id = two.id ∙ one.id;
@@ -77,6 +78,7 @@ pushed_queued limit (m ∷ messages) s off still = by (is_full limit (s.due ++ m
     by true on = absurd (true≢false on)
     by false still = record { off = off; rest = refl; due = refl }
 
+-- the messages of the write are pending after the others
 pub search_notified_queued : (limit : ℕ) (d : DirectoryState) (w : Write) (s : SearchState) → (search_notified limit d w s).over ≡ false
     → IsQueued s (search_notified limit d w s) (cond s.persists (group_of d s w) [])
 search_notified_queued limit d w s = by s.persists s.over refl

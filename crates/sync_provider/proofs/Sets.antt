@@ -56,6 +56,7 @@ gathers_by old new more parts grown are names decisions is = record {
   names = names ∙ ap (λ left. left_over left more) is.names ∙ sym (left_over-append decisions more []);
 }
 
+-- an entry is sent whole
 pub gathers_entry : (old new : Gathered) (entry : Entry) → new.parts ≡ old.parts ++ part.Whole entry ∷ [] → new.names ≡ old.names → Gathers (Sends entry ∷ []) old new
 gathers_entry old new entry parts names = gathers_by old new (Sends entry ∷ []) (part.Whole entry ∷ []) parts (λ deletes. refl) names
 
@@ -80,5 +81,6 @@ gathers_set old new uuid set is full parts names =
 
 -- ---- none
 
+-- no decision gathers nothing
 pub gathers_nothing : (g : Gathered) → Gathers [] g g
 gathers_nothing g decisions is = gathers_by g g [] [] (sym (append-nil g.parts)) (λ deletes. refl) refl decisions is

@@ -52,6 +52,7 @@ module _ (d0 : DirectoryState) (s0 : SearchState) (limit : ℕ) (d : DirectorySt
       operation : SyncOperation
       operation = session_at d0 s0 writes
 
+  -- it stands where it stood, with the write's messages to come
   pub search_notified_stands : Stands d0 s0 (with_write d w) (search_notified limit d w s) before
   search_notified_stands = record {
     sid = stands.sid;
@@ -79,6 +80,7 @@ advanced_same s (m ∷ rest) due = same_search s rest s.due s.over
 advanced_same s [] (m ∷ due) = same_search s s.rest due s.over
 advanced_same s [] [] = same_search s s.rest s.due s.over
 
+-- it stands one message further
 pub advanced_stands : (d0 : DirectoryState) (s0 : SearchState) (d : DirectoryState) (s : SearchState) (before : List SyncMessage) (m : SyncMessage) (ms : List SyncMessage)
     → Stands d0 s0 d s before → pending s ≡ m ∷ ms → is_end m ≡ false → Stands d0 s0 d (without_first s) (before ++ m ∷ [])
 advanced_stands d0 s0 d s before m ms stands first goes = record {
@@ -130,6 +132,7 @@ now_notified d0 s0 p number s before handed left writes found stands is begins =
 
 -- ---- its acceptance
 
+-- it stands at the beginning
 pub asked_stands : (p : ProviderState) (ask : SyncSearch) → Stands p.directory (asked p ask) p.directory (asked p ask) []
 asked_stands p ask = record {
   sid = refl;

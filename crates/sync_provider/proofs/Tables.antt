@@ -19,6 +19,7 @@ pub weaker : {X : Type 0} (es : List (ℕ × X)) (low next : ℕ) → low ≤ ne
 weaker [] low next less h = tt
 weaker (e ∷ es) low next less h = (omega (arith, h.0), h.1)
 
+-- the numbers of places do
 pub placed_ascends : {X : Type 0} (places : List (Option X)) (first : ℕ) → Ascends first (placed_from first places)
 placed_ascends [] first = tt
 placed_ascends (None ∷ places) first = weaker (placed_from (suc first) places) first (suc first) (omega arith) (placed_ascends places (suc first))
@@ -128,13 +129,16 @@ gone (e ∷ es) low k h = by (gone es (suc e.0) k h.1) (cases_order k e.0)
     by rest (inr (inl less)) = apart (is_at-other k e.0 (λ same. omega arith)) rest
     by rest (inr (inr more)) = apart (is_at-other k e.0 (λ same. omega arith)) rest
 
+-- at the place of a closed search there is none
 pub gone_of : {X : Type 0} (places : List (Option X)) (es : List (ℕ × X)) (k : ℕ) → es ≡ closed_at (placed_from 1 places) k → kept_at es k ≡ None
 gone_of places es k is = ap (λ xs. kept_at xs k) is ∙ gone (placed_from 1 places) 1 k (placed_ascends places 1)
 
+-- a search that is put back stands at its place
 pub put_again_at : {X : Type 0} (places : List (Option X)) (k : ℕ) (was : X) → kept_at (placed_from 1 places) k ≡ Some was
     → (x : X) → insert_entry nat_cmp (closed_at (placed_from 1 places) k) k x ≡ put_on (placed_from 1 places) k x
 put_again_at places k was found x = put_again (placed_from 1 places) 1 k was x (placed_ascends places 1) found
 
+-- each comes back so
 pub all_come_back : {X : Type 0} (places : List (Option X)) (k : ℕ) → ComesBack (placed_from 1 places) k
 all_come_back places k = comes_back (placed_from 1 places) 1 k (placed_ascends places 1)
 
@@ -237,15 +241,19 @@ map_long : {X Y : Type 0} (f : X → Y) (xs : List X) → length (map f xs) ≡ 
 map_long f [] = refl
 map_long f (x ∷ xs) = ap suc (map_long f xs)
 
+-- lists of places that show the same are equally long
 pub same_long : (one other : Places) → map shown one ≡ map shown other → length one ≡ length other
 same_long one other same = sym (map_long shown one) ∙ ap length same ∙ map_long shown other
 
+-- so is what is made of each place
 pub made_long : (make : Option HeldSearch → Option HeldSearch) (one other : Places) → one ≡ map make other → length one ≡ length other
 made_long make one other same = ap length same ∙ map_long make other
 
+-- so are the places after messages are pushed
 pub pushed_long : (limit : ℕ) (one other : Places) → map shown one ≡ map (pushed_at limit) other → length one ≡ length other
 pushed_long limit one other same = sym (map_long shown one) ∙ ap length same ∙ map_long (pushed_at limit) other
 
+-- what is pushed into each place is pushed into each search
 pub each_seen_pushed : (limit : ℕ) (new old : Places) → map shown new ≡ map (pushed_at limit) old → searches_of (placed_from 1 new) ≡ each_pushed limit (placed_from 1 old)
 each_seen_pushed limit new old same = seen_from new 1 ∙ ap (placed_from 1) same ∙ sym (pushed_from limit old 1)
 
@@ -255,6 +263,7 @@ placed_map_from f [] first = refl
 placed_map_from f (None ∷ places) first = placed_map_from f places (suc first)
 placed_map_from f (Some held ∷ places) first = ap (λ es. (first, f held) ∷ es) (placed_map_from f places (suc first))
 
+-- a change of each place is one of each search
 pub placed_map : (f : HeldSearch → HeldSearch) (places : Places) → placed_from 1 (map (option_map f) places) ≡ map (λ kept. (kept.0, f kept.1)) (placed_from 1 places)
 placed_map f places = placed_map_from f places 1
 
@@ -278,9 +287,11 @@ pub record AreMade {S : Type 0} (see make : Option HeldSearch → S) (n : ℕ) (
   pub rest : drop n new ≡ drop n old
   pub long : length new ≡ length old
 
+-- at first no place is made
 pub none_made : {S : Type 0} (see make : Option HeldSearch → S) (places : Places) → AreMade see make 0 places places
 none_made see make places = record { done = refl; rest = refl; long = refl }
 
+-- after the last one all are
 pub all_made : {S : Type 0} (see make : Option HeldSearch → S) (n : ℕ) (old new : Places) → AreMade see make n old new → length old ≤ n → map see new ≡ map make old
 all_made see make n old new are all =
     ap (map see) (sym (take_all new n (omega (arith, are.long, all)))) ∙ are.done ∙ ap (map make) (take_all old n all)
@@ -316,6 +327,7 @@ make_next see make (suc i) (x ∷ old) (y ∷ new) was now low are is same =
       long = ap suc next.long;
     }
 
+-- one place more is made
 pub made_on : {S : Type 0} (see make : Option HeldSearch → S) (i : ℕ) (old new : Places) (was now : Option HeldSearch) → i < length old → AreMade see make i old new → was ≡ get_or new i was → see now ≡ make was
     → AreMade see make (i + 1) old (set new i now)
 made_on see make i old new was now low are is same =

@@ -10,6 +10,8 @@ use Rattle.sync_wire.specs.Sending.{sent}
 use Rattle.sync_provider.specs.Search.{SearchState, pending, advanced}
 use Rattle.sync_provider.specs.declared.handed.Handed.{Handed}
 use Rattle.sync_provider.specs.declared.handed.Handed.TheVariants as handed
+use Rattle.sync_provider.specs.declared.handed_messages.HandOutStop.{HandOutStop}
+use Rattle.sync_provider.specs.declared.handed_messages.HandOutStop.TheVariants as stops
 
 -- what a hand-out answers
 pub data HandOut : Type 0 where
@@ -79,6 +81,14 @@ is_closing (Some (Hands message)) = false
 is_closing (Some (Closes code message)) = true
 is_closing (Some Waits) = false
 is_closing (Some Unknown) = false
+
+-- the reply that no more messages follow; none, where no more were asked for
+abbrev pub reply_of : HandOutStop → Option Handed
+reply_of stops.Enough = None
+reply_of (stops.Ended code message) = Some (handed.Ended code message)
+reply_of stops.Nothing = Some handed.Nothing
+reply_of stops.NoSuchSearch = Some handed.NoSuchSearch
+reply_of stops.NoMemory = Some handed.NoMemory
 
 -- ---- the searches after it
 

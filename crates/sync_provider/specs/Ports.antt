@@ -1,6 +1,6 @@
 -- What is done through a port of a directory: each reply is the one that a provider of one thread
 -- gives at its place in the directory's journal.
-use Rattle.std.specs.Prelude.{◌≡◌, ◌≢◌, ◌<◌, ◌≤◌, ◌↔◌, ℕ, ◌+◌, ◌^◌, Bool, true, false, cond, not, ◌||◌, ◌&&◌, nat_eq, if◌then◌else◌, List, [], ◌∷◌, ◌++◌, length, drop, find, Option, Some, None, option_map, is_some, Result, Ok, Err, IfOk, IfErr, IfSome, OnOk, OnErr, IsErrOf, All}
+use Rattle.std.specs.Prelude.{◌≡◌, ◌≢◌, ◌<◌, ◌≤◌, ◌↔◌, ◌⊎◌, ℕ, ◌+◌, ◌^◌, Bool, true, false, cond, not, ◌||◌, ◌&&◌, nat_eq, if◌then◌else◌, List, [], ◌∷◌, ◌++◌, length, drop, find, Option, Some, None, option_map, is_some, Result, Ok, Err, IfOk, IfErr, IfSome, OnOk, OnErr, IsErrOf, All}
 use Rattle.ldap_constants.specs.declared.result_codes.TheConstants.{NO_SUCH_OBJECT, OTHER, PROTOCOL_ERROR}
 use Rattle.dn_names.specs.Names.{TypeAndValue, is_at_or_below}
 use Rattle.entry_tree.specs.declared.entry.Entry.{Entry}
@@ -11,11 +11,13 @@ use Rattle.sync_messages.specs.Request.{request_of}
 use Rattle.sync_messages.specs.declared.fault.SyncFault.{SyncFault}
 use Rattle.sync_messages.specs.declared.request.SyncRequest.{SyncRequest}
 use Rattle.sync_model.specs.Message.{SyncMessage}
+use Rattle.ldap_messages.specs.declared.message.Message.{Message}
 use Rattle.directory_writes.specs.Directory.{DirectoryState, entries_of, judged, with_write, code_of_judged, AreAccepted, CsnsRise}
+use Rattle.directory_writes.specs.Formed.{AreFormed}
 use Rattle.sync_provider.specs.Accepting.{AnswersAccept, numbers_from, numbered}
 use Rattle.sync_provider.specs.Committing.{commit_refusal, RejectsCommit}
 use Rattle.sync_provider.specs.Comparing.{compare_code}
-use Rattle.sync_provider.specs.HandingOut.{HandOut, turn_of, turn_of_pending, has_message}
+use Rattle.sync_provider.specs.HandingOut.{HandOut, reply_of, turn_of, turn_of_pending, has_message}
 use Rattle.sync_provider.specs.HandingOut.HandOut.{Hands, Closes, Waits, Unknown}
 use Rattle.sync_provider.specs.Law.{stream_of, is_too_much}
 use Rattle.sync_provider.specs.Machine.{judged_by}
@@ -24,6 +26,9 @@ use Rattle.sync_provider.specs.Search.{busy_end}
 use Rattle.sync_provider.specs.Searching.{reply_to}
 use Rattle.sync_provider.specs.declared.handed.Handed.{Handed}
 use Rattle.sync_provider.specs.declared.handed.Handed.TheVariants as turns
+use Rattle.sync_provider.specs.declared.handed_messages.HandedMessages.{HandedMessages}
+use Rattle.sync_provider.specs.declared.handed_messages.HandOutStop.{HandOutStop}
+use Rattle.sync_provider.specs.declared.handed_messages.HandOutStop.TheVariants as stops
 use Rattle.sync_provider.specs.declared.journal_note.ClosedSearch.{ClosedSearch}
 use Rattle.sync_provider.specs.declared.journal_note.JournalNote.{JournalNote}
 use Rattle.sync_provider.specs.declared.journal_note.JournalNote.TheVariants.{Wrote, Opened, Closed}
@@ -154,6 +159,21 @@ pub record IsReplied (old : PortState) (Replies : PortState → Type 0) : Type 0
   pub later : IsLater old place
   pub replies : Replies place
 
+-- what another port has seen is how the journal begins that a port has seen
+pub record HasSeenAllOf (port other : PortState) : Type 0 where
+  pub more : Journal
+  pub begins : port.journal ≡ other.journal ++ more
+
+-- a port may meet another one where they are ports of a directory, or where it would learn nothing
+abbrev pub CanMeet : (port other : PortState) → Type 0
+CanMeet port other = (0 < port.ports) ⊎ HasSeenAllOf port other
+
+-- a port that met another one of its directory: entries of other ports came in, and its journal
+-- goes on from what the other port has seen
+pub record HasMet (old beside new : PortState) : Type 0 where
+  pub later : IsLater old new
+  pub seen : HasSeenAllOf new beside
+
 -- ---- writes
 
 -- an accepted write is an entry of this port
@@ -202,12 +222,14 @@ pub record CompareReplies
   pub answer : code ≢ OTHER → code ≡ compare_code (entries_of p.directory) dn name value
   pub state : new ≡ p
 
--- each write was accepted on the entries before it, and has a CSN above those before it
+-- each write was accepted on the entries before it, and has a CSN above those before it; each CSN
+-- is in range, and what a client asked for is well formed
 pub record WritesReplies (p : PortState) (number : ℕ) (new : PortState) : Type 0 where
   pub answer : number ≡ length p.directory.writes
   pub small : number < 2 ^ 63
   pub accepted : AreAccepted p.directory.suffix p.directory.history p.directory.writes
   pub rises : CsnsRise p.directory.sid p.directory.writes
+  pub formed : AreFormed p.directory.writes
   pub state : new ≡ p
 
 -- ---- searches with content synchronisation
@@ -275,6 +297,27 @@ pub record HandOutReplies
   pub memory :
       result ≡ turns.NoMemory → has_message (turn_in p.directory (p.followed number)) ≡ true
   pub state : new ≡ after_turn_in p number (p.followed number) (turn_of result)
+
+-- messages of one search, one after the other, and then one reply more, or none
+abbrev pub MessagesReply : PortState → ℕ → List Message → Option Handed → PortState → Type 0
+MessagesReply p number [] None new = new ≡ p
+MessagesReply p number [] (Some reply) new = HandOutReplies p number reply new
+MessagesReply p number (message ∷ messages) reply new =
+    (between : PortState) × HandOutReplies p number (turns.Message message) between
+    × MessagesReply between number messages reply new
+
+-- as many messages as were asked for, or fewer, which something else stops
+abbrev pub IsWithin : (most count : ℕ) → HandOutStop → Type 0
+IsWithin most count stops.Enough = count ≡ most
+IsWithin most count (stops.Ended code message) = count < most
+IsWithin most count stops.Nothing = count < most
+IsWithin most count stops.NoSuchSearch = count < most
+IsWithin most count stops.NoMemory = count < most
+
+pub record SeveralReplies
+    (p : PortState) (number most : ℕ) (given : HandedMessages) (new : PortState) : Type 0 where
+  pub within : IsWithin most (length given.messages.items) given.stop
+  pub replies : MessagesReply p number given.messages.items (reply_of given.stop) new
 
 abbrev pub dropped_in : PortState → ℕ → Option FollowedSearch → PortState
 dropped_in p number None = p

@@ -1,8 +1,9 @@
 //! What is handed out of a search.
 
-ghost use Rattle.std.specs.Prelude.{◌≡◌};
+ghost use Rattle.std.specs.Prelude.{◌≡◌, Some, IfErr, IfOk};
 ghost use Rattle.sync_provider.specs.HandingOut as handing;
 
+use crate::handed_messages::HandOutStop;
 use ldap_messages::Message;
 
 /// What is handed out of a search.
@@ -27,6 +28,20 @@ impl Handed {
         match self {
             Handed::Ended(_, _) => true,
             Handed::Message(_) | Handed::Nothing | Handed::NoSuchSearch | Handed::NoMemory => false,
+        }
+    }
+
+    /// Its message, where the search goes on after it, or why it goes on no further.
+    pub fn into_message(self) -> Result<Message, HandOutStop>
+        ensures message { IfOk result (λ message. self ≡ Handed.Message message) }
+        ensures stop { IfErr result (λ stop. handing.reply_of stop ≡ Some self) }
+    {
+        match self {
+            Handed::Message(message) => Ok(message),
+            Handed::Ended(code, message) => Err(HandOutStop::Ended(code, message)),
+            Handed::Nothing => Err(HandOutStop::Nothing),
+            Handed::NoSuchSearch => Err(HandOutStop::NoSuchSearch),
+            Handed::NoMemory => Err(HandOutStop::NoMemory),
         }
     }
 }

@@ -1,8 +1,8 @@
 //! A directory with its accepted writes, and the searches with content synchronisation that are
 //! open on it (RFC 4533, section 3, the server's part).
 //!
-//! The directory of a root has the writes of clients. That of a replica has commits of what it took
-//! from the provider that it follows; each of them is one write, and is reported to its own
+//! A directory that is a root has the writes of its clients. That of a replica has commits of what
+//! it took from the provider that it follows; each of them is one write, and is reported to its own
 //! searches.
 //!
 //! Each search begins with a refresh, whose end carries the cookie of the content. Without a cookie
@@ -26,6 +26,7 @@ mod comparing;
 mod content_change;
 mod gathering;
 mod handed;
+mod handed_messages;
 mod journal;
 mod journal_note;
 mod laws;
@@ -51,6 +52,7 @@ mod writing;
 
 pub use committing::StagedCommit;
 pub use handed::Handed;
+pub use handed_messages::{HandOutStop, HandedMessages};
 pub use journal_note::{ClosedSearch, JournalNote, SearchChange, SearchEvent};
 pub use laws::{
     cookies_name_their_prefix, logs_show_what_was_touched, numbers_show_what_was_touched,

@@ -1,17 +1,19 @@
 //! A port of a directory: what writes, searches and follows it, whether other ports do so too.
 
-ghost use Rattle.std.specs.Prelude.{◌≡◌, true, false};
+ghost use Rattle.std.specs.Prelude.{◌≡◌, ◌≤◌, [], true, false, vec_capacity};
 ghost use Rattle.std.specs.List.{list_all};
 ghost use Rattle.entry_tree.specs.Fitting.{is_within_entry_limit};
 ghost use Rattle.entry_tree.specs.Sound.{is_commit, is_sound_op, is_sound_put};
-ghost use Rattle.sync_provider.specs.Ports.{PortState, IsReplied, WriteReplies, CommitReplies, SearchReplies, CompareReplies, AcceptReplies, HandOutReplies, DropReplies, WritesReplies};
+ghost use Rattle.sync_provider.specs.Ports.{PortState, CanMeet, IsReplied, WriteReplies, CommitReplies, SearchReplies, CompareReplies, AcceptReplies, HandOutReplies, SeveralReplies, DropReplies, WritesReplies, HasMet};
 
 use crate::handed::Handed;
+use crate::handed_messages::HandedMessages;
 use crate::searches::{Accepted, SyncSearch};
 use crate::searching::{PlainSearch, SearchReply};
 use crate::writing::{CommitFault, Reply};
 use dn_names::Dn;
 use entry_tree::{EntryList, Op};
+use ldap_messages::Message;
 use sync_messages::IdList;
 
 /// A port of a directory. Entries of other ports come into the directory's journal between two
@@ -70,6 +72,15 @@ pub trait Port: Drop {
         ensures replies { IsReplied (state self.old)
             (λ p. HandOutReplies p search result (state self.new)) };
 
+    /// The next messages of the search with this number, `most` at most, one after the other, with
+    /// no entry of another port between them. They are put into the room, which has to be empty.
+    fn hand_out_several(&mut self, search: u64, most: usize, room: Vec<Message>) -> HandedMessages
+        requires empty { room.items ≡ [] }
+        requires fits { most ≤ vec_capacity room }
+        ensures home { home self.new ≡ home self.old }
+        ensures replies { IsReplied (state self.old)
+            (λ p. SeveralReplies p search most result (state self.new)) };
+
     /// Ends the search with this number. False where this port has none.
     fn drop_search(&mut self, search: u64) -> bool
         ensures home { home self.new ≡ home self.old }
@@ -77,9 +88,20 @@ pub trait Port: Drop {
             (λ p. DropReplies p search result (state self.new)) };
 
     /// How many writes were accepted. Each was sound, had nothing against it on the entries before
-    /// it, and has a CSN above those before it.
+    /// it, and has a CSN above those before it; each CSN is in range, and what a client asked for is
+    /// well formed.
     fn writes(&mut self) -> u64
         ensures home { home self.new ≡ home self.old }
         ensures replies { IsReplied (state self.old)
             (λ p. WritesReplies p result (state self.new)) };
+
+    /// Learns of the journal what another port of the same directory has seen. Entries of other
+    /// ports come in, and nothing is done.
+    fn meet(&mut self, other: &mut Self)
+        requires home { home self.old ≡ home other.old }
+        requires known { CanMeet (state self.old) (state other.old) }
+        ensures home { home self.new ≡ home self.old }
+        ensures met { HasMet (state self.old) (state other.old) (state self.new) }
+        ensures other_home { home other.new ≡ home other.old }
+        ensures other { state other.new ≡ state other.old };
 }

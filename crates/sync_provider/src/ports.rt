@@ -3,6 +3,7 @@
 ghost use Rattle.sync_provider.specs.Journal.{port_state};
 
 use crate::handed::Handed;
+use crate::handed_messages::HandedMessages;
 use crate::port::Port;
 use crate::provider::Provider;
 use crate::searches::{Accepted, SyncSearch};
@@ -10,6 +11,7 @@ use crate::searching::{PlainSearch, SearchReply};
 use crate::writing::{CommitFault, Reply};
 use dn_names::Dn;
 use entry_tree::{EntryList, Op};
+use ldap_messages::Message;
 use sync_messages::IdList;
 
 /// It is a port of itself alone: no entry of another one comes in.
@@ -51,6 +53,11 @@ impl Port for Provider {
     }
 
     #[tactic(auto, using(crate::proofs::Journals::replied_alone))]
+    fn hand_out_several(&mut self, search: u64, most: usize, room: Vec<Message>) -> HandedMessages {
+        Provider::hand_out_several(self, search, most, room)
+    }
+
+    #[tactic(auto, using(crate::proofs::Journals::replied_alone))]
     fn drop_search(&mut self, search: u64) -> bool {
         Provider::drop_search(self, search)
     }
@@ -58,5 +65,10 @@ impl Port for Provider {
     #[tactic(auto, using(crate::proofs::Journals::replied_alone))]
     fn writes(&mut self) -> u64 {
         Provider::writes(self)
+    }
+
+    #[tactic(auto, using(crate::proofs::Journals::met_alone))]
+    fn meet(&mut self, other: &mut Provider) {
+        let _ = other;
     }
 }

@@ -4,6 +4,7 @@ ghost use Rattle.std.specs.Prelude.{◌≡◌, ◌≢◌, ◌≤◌, ◌-◌, �
 ghost use Rattle.std.specs.List.{list_all};
 ghost use Rattle.csn_cookie.specs.Csn as csn_specs;
 ghost use Rattle.directory_writes.specs.Directory as directory;
+ghost use Rattle.directory_writes.specs.Formed.{AreFormed};
 ghost use Rattle.entry_tree.specs.Fitting.{is_within_entry_limit};
 ghost use Rattle.entry_tree.specs.Selection.{search_of};
 ghost use Rattle.entry_tree.specs.Sound.{is_commit, is_sound_op, is_sound_put};
@@ -270,7 +271,8 @@ impl Provider {
     }
 
     /// How many writes were accepted. Each was sound, had nothing against it on the entries before
-    /// it, and has a CSN above those before it.
+    /// it, and has a CSN above those before it; each CSN is in range, and what a client asked for is
+    /// well formed.
     pub fn writes(&self) -> u64
         ensures value { result ≡ length self.now.state.directory.writes }
         ensures small { result < 2 ^ 63 }
@@ -278,6 +280,7 @@ impl Provider {
             self.now.state.directory.history self.now.state.directory.writes }
         ensures rises { directory.CsnsRise
             self.now.state.directory.sid self.now.state.directory.writes }
+        ensures formed { AreFormed self.now.state.directory.writes }
     {
         self.directory.writes()
     }

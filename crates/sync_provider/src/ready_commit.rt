@@ -143,7 +143,7 @@ fn make_commit_ready(
         IsCommitPreview standing.now staged.puts staged.drops now commit.ready.preview) }
     ensures op { IfOk result (λ commit. commit.op ≡ Op.Commit staged.puts staged.drops) }
     ensures after { IfOk result (λ commit.
-        commit.ready.after ≡ standing_after standing.now commit.ready.preview) }
+        commit.ready.after ≡ standing_after standing.now commit.op commit.ready.preview) }
     ensures staged { IfOk result (λ commit. searches.new
         ≡ each_staged commit.ready.preview.touched
         (cookie_text (cookie_at directory.now.state.sid directory.now.state.history

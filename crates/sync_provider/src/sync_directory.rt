@@ -3,6 +3,7 @@
 ghost use Rattle.std.specs.Prelude.{◌≡◌, ◌≤◌, ◌-◌, ◌<◌, ◌^◌, true, length, slice_get, None, Some, IfOk, IfSome};
 ghost use Rattle.csn_cookie.specs.Csn as csn_specs;
 ghost use Rattle.directory_writes.specs.Directory as directory;
+ghost use Rattle.directory_writes.specs.Formed.{AreFormed};
 ghost use Rattle.sync_provider.specs.Answering.{HandOutLeaves, DropLeaves};
 ghost use Rattle.sync_provider.specs.HandingOut as handing;
 ghost use Rattle.sync_provider.specs.Machine as machine;
@@ -170,13 +171,15 @@ impl SyncDirectory {
     }
 
     /// How many writes were accepted. Each was sound, had nothing against it on the entries before
-    /// it, and has a CSN above those before it.
+    /// it, and has a CSN above those before it; each CSN is in range, and what a client asked for is
+    /// well formed.
     pub fn writes(&self) -> u64
         ensures value { result ≡ length self.now.directory.writes }
         ensures small { result < 2 ^ 63 }
         ensures accepted { directory.AreAccepted
             self.now.directory.suffix self.now.directory.history self.now.directory.writes }
         ensures rises { directory.CsnsRise self.now.directory.sid self.now.directory.writes }
+        ensures formed { AreFormed self.now.directory.writes }
     {
         self.directory.accepted().len() as u64
     }

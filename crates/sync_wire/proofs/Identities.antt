@@ -25,6 +25,7 @@ use Rattle.sync_wire.proofs.OfSearch.{IsOfSearch}
 
 -- ---- what is found can be sent
 
+-- an entry that is found among those that can be sent can be sent
 pub found_sent : (entries : List Entry) (u : ℕ) (e : Entry) → entry_at entries u ≡ Some e → All CanBeSent entries → CanBeSent e
 found_sent [] u e is all = let never : ⊥ = cc in absurd never
 found_sent (x ∷ entries) u e is all = by (found_sent entries u e) (is_identified u x) is

@@ -1,12 +1,12 @@
 -- What is kept of attributes.
-use Rattle.std.proofs.Common.{◌≡◌, ◌≢◌, ℕ, ◌+◌, ◌<◌, Bool, true, false, cond, if◌then◌else◌, List, [], ◌∷◌, length, take, get_or, Option, None, Some, is_some, ap, ◌∙◌, refl}
-use Rattle.std.specs.List.{filter_map}
+use Rattle.std.proofs.Common.{◌≡◌, ◌≢◌, ℕ, ◌+◌, ◌<◌, Bool, true, false, ◌&&◌, cond, if◌then◌else◌, List, [], ◌∷◌, length, take, get_or, Option, None, Some, is_some, ap, ◌∙◌, refl}
+use Rattle.std.specs.List.{filter_map, list_all}
 use Rattle.std.specs.Str.{str_to_ascii_lowercase}
 use Rattle.schema_rules.specs.declared.attributes.Attribute.{Attribute}
 use Rattle.schema_rules.specs.declared.raw.RawAttribute.{RawAttribute}
 use Rattle.schema_rules.specs.declared.types.Rule.{Rule}
 use Rattle.schema_rules.specs.declared.types.Rule.TheVariants.{Class}
-use Rattle.schema_rules.specs.Attributes.{joined, with_values}
+use Rattle.schema_rules.specs.Attributes.{joined, with_values, is_of_syntax}
 use Rattle.schema_rules.specs.Keys.{key_by, key_of}
 use Rattle.schema_rules.specs.Schema.{type_rule, type_named, is_operational, class_named}
 use Rattle.schema_rules.proofs.Lists.{filter_map_some, filter_map_none}
@@ -23,10 +23,14 @@ some_if false key = refl
 kept_by_class : (rule : Rule) (value : List ℕ) → rule ≡ Class → is_some (key_by rule value) ≡ is_kept_by rule value
 kept_by_class rule value is_class = rw is_class (some_if (is_some (class_named value)) (str_to_ascii_lowercase value))
 
--- of a type of object classes what has a key is kept
-pub known_class : (kind : ℕ) (value : List ℕ) → type_rule kind ≡ Class → is_some (key_of kind value) ≡ is_kept_by (type_rule kind) value
+alone : (b : Bool) → (b && true) ≡ b
+alone true = refl
+alone false = refl
+
+-- of a type of object classes a value of its syntax is kept
+pub known_class : (kind : ℕ) (value : List ℕ) → type_rule kind ≡ Class → list_all (is_of_syntax kind) (value ∷ []) ≡ is_kept_by (type_rule kind) value
 unfolding key_of
-known_class kind value is_class = kept_by_class (type_rule kind) value is_class
+known_class kind value is_class = alone (is_of_syntax kind value) ∙ kept_by_class (type_rule kind) value is_class
 
 -- ---- attributes
 

@@ -22,7 +22,7 @@ use Rattle.sync_messages.specs.State.{kind_number, state_octets}
 use Rattle.sync_messages.specs.declared.info.SyncInfo.TheVariants as info
 use Rattle.sync_messages.specs.declared.state.State.{State}
 use Rattle.sync_messages.specs.declared.state.State.TheVariants as state
-use Rattle.schema_rules.specs.Attributes.{is_given, values_weight, weight_of}
+use Rattle.schema_rules.specs.Attributes.{is_given, values_weight, weight_of, raw_of}
 use Rattle.schema_rules.specs.Schema.{type_name}
 use Rattle.schema_rules.specs.declared.attributes.Attribute.{Attribute}
 use Rattle.dn_names.specs.Writing.{name_text}
@@ -36,7 +36,7 @@ use Rattle.entry_tree.specs.declared.entry.Entry.{Entry}
 use Rattle.sync_model.specs.Message.{phase_end}
 use Rattle.sync_model.specs.Message.SyncMessage.{AddOrModify, Delete, IdSet, Done}
 use Rattle.sync_wire.specs.CanBeSent.{CanBeSent}
-use Rattle.sync_wire.specs.Sending.{raw_of, single, uuid_text, operational_attributes_of, attributes_of, entry_of, kind_of, result_of, state_name, done_name, info_name, sent}
+use Rattle.sync_wire.specs.Sending.{single, uuid_text, operational_attributes_of, attributes_of, entry_of, kind_of, result_of, state_name, done_name, info_name, sent}
 use Rattle.sync_wire.proofs.Sizes.{flag_size, kind_size, uuids_size}
 
 attributes_size : (attrs : List Attribute) → All (λ a. a.values ≢ []) attrs → list_all is_given attrs ≡ true

@@ -1,7 +1,8 @@
+pub mod Identified
 pub mod Identities
 pub mod Lengths
-pub mod Lists
 pub mod OfSearch
+pub mod Only
 pub mod Servable
 pub mod Texts
 pub mod Keeping

@@ -20,7 +20,7 @@ use Rattle.schema_rules.specs.declared.attributes.Attribute.{Attribute}
 use Rattle.schema_rules.specs.declared.raw.RawAttribute.{RawAttribute}
 use Rattle.schema_rules.specs.declared.types.Rule.{Rule}
 use Rattle.schema_rules.specs.declared.types.Rule.TheVariants.{Class, Folded, FoldedAscii, ExactAscii, Whole, Flag, Time, Operational}
-use Rattle.schema_rules.specs.Attributes.{is_given, is_of_syntax, joined, weight_of}
+use Rattle.schema_rules.specs.Attributes.{is_given, is_of_syntax, joined, weight_of, raw_of}
 use Rattle.schema_rules.specs.Keys.{key_by, key_of}
 use Rattle.schema_rules.specs.Schema.{TypeRow, types, no_type, type_name, type_rule, type_named, is_operational, is_operational_rule, class_named}
 use Rattle.schema_rules.proofs.Tables.{found_by_name}
@@ -32,7 +32,7 @@ use Rattle.sync_messages.proofs.UuidLemmas.{from_be_bytes-to_be_bytes_16}
 use Rattle.sync_wire.specs.declared.fault.DecodeFault.{DecodeFault}
 use Rattle.sync_wire.specs.Refusals.{and_then, bad_entry}
 use Rattle.sync_wire.specs.CanBeSent.{CanBeSent}
-use Rattle.sync_wire.specs.Sending.{uuid_text, raw_of, operational_attributes_of, attributes_of as sent_attributes}
+use Rattle.sync_wire.specs.Sending.{uuid_text, operational_attributes_of, attributes_of as sent_attributes}
 use Rattle.sync_wire.specs.WireEntry.{values_named, uuid_of, uuid_values, first_other, same_or_refused, checked_uuid, are_uuids, or_object_class_violation, one_csn, entry_csn, is_kept_by, kept_values, unless_empty, kept_of, kept, attributes_of, is_of_its_syntax, or_invalid_dn_syntax, checked_syntax, checked_weight, entry_of}
 use Rattle.sync_wire.proofs.Listed.{joined-once}
 use Rattle.sync_wire.proofs.Keeping.{some_if}

@@ -5,9 +5,8 @@ use Rattle.std.specs.Int.{to_be_bytes, w128}
 use Rattle.ldap_constants.specs.declared.object_identifiers.TheConstants.{SYNC_STATE, SYNC_DONE, SYNC_INFO}
 use Rattle.uuid.specs.Text.{hyphenated_text, lower}
 use Rattle.csn_cookie.specs.Csn.{csn_text}
-use Rattle.schema_rules.specs.declared.attributes.Attribute.{Attribute}
+use Rattle.schema_rules.specs.Attributes.{raw_of}
 use Rattle.schema_rules.specs.declared.raw.RawAttribute.{RawAttribute}
-use Rattle.schema_rules.specs.Schema.{type_name}
 use Rattle.dn_names.specs.Writing.{name_text}
 use Rattle.entry_tree.specs.declared.entry.Entry.{Entry}
 use Rattle.sync_messages.specs.declared.info.SyncInfo.{SyncInfo}
@@ -59,10 +58,6 @@ done_control deletes cookie =
 -- 8-4-4-4-12 hexadecimal digits in lower case (RFC 9562, section 4)
 unfoldable pub uuid_text : ℕ → List ℕ
 uuid_text uuid = hyphenated_text lower (to_be_bytes w128 uuid)
-
--- an attribute by the name of its type
-abbrev pub raw_of : Attribute → RawAttribute
-raw_of a = record { name = type_name a.kind; values = a.values }
 
 abbrev pub single : List ℕ → List ℕ → RawAttribute
 single name value = record { name = name; values = value ∷ [] }

@@ -1,6 +1,7 @@
 -- The values of controls and of Sync Info messages (RFC 4533, sections 2.3 to 2.5).
-use Rattle.std.specs.Prelude.{ℕ, List, find, bytes_eq, Option, Some, None, Result, Ok, Err}
+use Rattle.std.specs.Prelude.{ℕ, List, Option, Some, None, Result, Ok, Err}
 use Rattle.ldap_constants.specs.declared.object_identifiers.TheConstants.{SYNC_STATE, SYNC_DONE}
+use Rattle.ldap_parts.specs.Controls.{control_named}
 use Rattle.ldap_parts.specs.declared.control.Control.{Control}
 use Rattle.sync_messages.specs.declared.fault.SyncFault.{SyncFault}
 use Rattle.sync_messages.specs.declared.fault.SyncFault.TheVariants as given
@@ -13,10 +14,6 @@ use Rattle.sync_messages.specs.State.{state_of}
 use Rattle.sync_wire.specs.declared.fault.DecodeFault.{DecodeFault}
 use Rattle.sync_wire.specs.declared.fault.DecodeFault.TheVariants.{OutOfPlace, BadValue, NoMemory}
 use Rattle.sync_wire.specs.Refusals.{on_ok}
-
--- the first control of that name
-abbrev pub control_named : List ℕ → List Control → Option Control
-control_named name controls = find (λ control. bytes_eq control.name name) controls
 
 -- each fault of a reading says that the value is outside its grammar
 abbrev pub refusal_of : SyncFault → DecodeFault

@@ -52,6 +52,16 @@ checked_uuid uuid raws = same_or_refused uuid (first_other uuid (uuid_values raw
 abbrev pub are_uuids : List RawAttribute → Bool
 are_uuids raws = list_all (λ value. is_some (uuid_of value)) (uuid_values raws)
 
+-- the other identity where there is one, or else whether all texts are of one
+abbrev pub other_or_all : Option ℕ → Bool → Result Bool ℕ
+other_or_all (Some other) all = Err other
+other_or_all None all = Ok all
+
+-- the first identity among the texts that is not this one, or else whether each is of this one
+abbrev pub uuids_read : ℕ → List (List ℕ) → Result Bool ℕ
+uuids_read uuid texts =
+    other_or_all (first_other uuid texts) (list_all (λ text. is_some (uuid_of text)) texts)
+
 -- objectClassViolation in place of none
 abbrev pub or_object_class_violation : Option CsnValue → Result CsnValue DecodeFault
 or_object_class_violation None = Err (bad_entry OBJECT_CLASS_VIOLATION)
@@ -59,6 +69,12 @@ or_object_class_violation (Some csn) = Ok csn
 
 abbrev pub csn_of : List ℕ → Result CsnValue DecodeFault
 csn_of text = or_object_class_violation (csn_of_text text)
+
+-- the value where there is one alone
+abbrev pub only_one : List (List ℕ) → Option (List ℕ)
+only_one [] = None
+only_one (value ∷ []) = Some value
+only_one (value ∷ other ∷ values) = None
 
 -- one value, which is a CSN, or objectClassViolation
 abbrev pub one_csn : List (List ℕ) → Result CsnValue DecodeFault

@@ -106,10 +106,10 @@ fn entry_decoded(
         return Err(DecodeFault::OutOfPlace);
     }
     let uuid = state.uuid;
-    check_uuid(alloc, raws, uuid)?;
+    let are_uuids = check_uuid(raws, uuid)?;
     match state.state {
         State::Add | State::Modify => {
-            let entry = entry_of(alloc, uuid, name, raws)?;
+            let entry = entry_of(alloc, uuid, name, raws, are_uuids)?;
             Ok(SyncEvent::AddOrModify(entry, state.cookie))
         }
         State::Delete => Ok(SyncEvent::Delete(uuid, state.cookie)),

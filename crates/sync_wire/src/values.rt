@@ -1,7 +1,6 @@
 //! The values of controls and of Sync Info messages (RFC 4533, section 2).
 
 ghost use Rattle.std.specs.Prelude.{◌≡◌, Ok};
-ghost use Rattle.std.specs.Option.{option_copied};
 ghost use Rattle.ldap_ber.specs.Gives.{Gives};
 ghost use Rattle.sync_wire.specs.Refusals.{DecodeFails};
 ghost use Rattle.sync_wire.specs.Values as spec;
@@ -9,7 +8,7 @@ ghost use Rattle.sync_wire.specs.Values as spec;
 use crate::fault::DecodeFault;
 use ldap_ber::Octets;
 use ldap_constants::{SYNC_DONE, SYNC_STATE};
-use ldap_messages::Control;
+use ldap_messages::{Control, control_named};
 use std::alloc::Global;
 use sync_messages::{SyncDone, SyncFault, SyncInfo, SyncState};
 
@@ -25,15 +24,6 @@ impl From<SyncFault> for DecodeFault {
             | SyncFault::BadState(_) => DecodeFault::BadValue,
         }
     }
-}
-
-/// The first control of that name.
-fn control_named<'a>(controls: &'a [Control], name: &[u8]) -> Option<&'a Control>
-    ensures { option_copied result ≡ spec.control_named name.now controls.now }
-{
-    controls
-        .iter()
-        .find(|control| control.name.as_slice() == name)
 }
 
 /// The bytes of a value, which have to be there.

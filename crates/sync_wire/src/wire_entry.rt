@@ -1,6 +1,6 @@
 //! Entries as they are sent.
 
-ghost use Rattle.std.specs.Prelude.{◌≡◌, Ok, IfOk};
+ghost use Rattle.std.specs.Prelude.{◌≡◌, [], ◌∷◌, Ok, IfOk};
 ghost use Rattle.std.specs.List.{list_all};
 ghost use Rattle.schema_rules.specs.Schema.{type_rule};
 ghost use Rattle.ldap_ber.specs.Gives.{Gives};
@@ -8,34 +8,38 @@ ghost use Rattle.sync_wire.specs.Refusals.{DecodeFails};
 ghost use Rattle.sync_wire.specs.WireEntry as spec;
 
 use crate::fault::DecodeFault;
-use crate::operational::{are_uuids, entry_csn};
+use crate::operational::entry_csn;
 use dn_names::{Dn, NameFault};
 use entry_tree::Entry;
 use ldap_ber::{NoMemory, Octets, OctetsList};
 use ldap_constants::{ADMIN_LIMIT_EXCEEDED, INVALID_ATTRIBUTE_SYNTAX, INVALID_DN_SYNTAX};
 use schema_rules::{
-    Attribute, AttributeType, Attrs, RawAttribute, Rule, add_values, are_of_syntax, known_key,
+    Attribute, AttributeType, Attrs, RawAttribute, Rule, add_values, are_of_syntax,
 };
 use std::alloc::Global;
+use std::slice;
 
 /// The most that an entry weighs.
 const MOST_ENTRY_WEIGHT: u64 = 65_536;
 
-/// The entry of an identity that was sent with this name and these attributes.
+/// The entry of an identity that was sent with this name and these attributes, of which it is known
+/// whether each entryUUID is the text of an identity.
 pub(crate) fn entry_of(
     alloc: Global,
     uuid: u128,
     name: &Octets,
     raws: &[RawAttribute],
+    are_uuids: bool,
 ) -> Result<Entry, DecodeFault>
+    requires { are_uuids ≡ spec.are_uuids raws.now }
     ensures { Gives DecodeFails (λ entry. Ok entry) result (spec.entry_of uuid name.now raws.now) }
 {
     let dn = name_of(alloc, name)?;
     let attrs = attributes_of(alloc, raws)?;
-    if !are_uuids(alloc, raws)? || !are_of_their_syntax(alloc, attrs.list())? {
+    if !are_uuids || !are_of_their_syntax(alloc, attrs.list())? {
         return Err(DecodeFault::BadEntry(INVALID_ATTRIBUTE_SYNTAX));
     }
-    let csn = entry_csn(alloc, raws)?;
+    let csn = entry_csn(raws)?;
     if attrs.weight() > MOST_ENTRY_WEIGHT {
         return Err(DecodeFault::BadEntry(ADMIN_LIMIT_EXCEEDED));
     }
@@ -99,6 +103,26 @@ fn kept_values(
 ) -> Result<OctetsList, NoMemory>
     ensures { IfOk result (λ list. list ≡ spec.kept_values kind values.now) }
 {
+    match values {
+        [value] => kept_value(alloc, kind, value),
+        _ => kept_each(alloc, kind, values),
+    }
+}
+
+/// The same of one value, in a list that takes no memory.
+fn kept_value(alloc: Global, kind: AttributeType, value: &Octets) -> Result<OctetsList, NoMemory>
+    ensures { IfOk result (λ list. list ≡ spec.kept_values kind (value.now ∷ [])) }
+{
+    if is_kept(alloc, kind, value)? {
+        return Ok(OctetsList::of_one(alloc, value.copy()?));
+    }
+    Ok(OctetsList::new(alloc))
+}
+
+/// The same of any number.
+fn kept_each(alloc: Global, kind: AttributeType, values: &[Octets]) -> Result<OctetsList, NoMemory>
+    ensures { IfOk result (λ list. list ≡ spec.kept_values kind values.now) }
+{
     let mut list = OctetsList::new(alloc);
     for value in values {
         if is_kept(alloc, kind, value)? {
@@ -109,12 +133,11 @@ fn kept_values(
 }
 
 /// Whether the value is kept: of a type of object classes only the name of one.
-#[tactic(auto, using(crate::proofs::Keeping::known_class))]
 fn is_kept(alloc: Global, kind: AttributeType, value: &Octets) -> Result<bool, NoMemory>
     ensures { IfOk result (λ is_kept. is_kept ≡ spec.is_kept_by (type_rule kind) value.now) }
 {
     match kind.rule() {
-        Rule::Class => Ok(known_key(alloc, kind, value.as_slice())?.is_some()),
+        Rule::Class => are_of_syntax(alloc, kind, slice::from_ref(value)),
         Rule::Folded
         | Rule::FoldedAscii
         | Rule::ExactAscii

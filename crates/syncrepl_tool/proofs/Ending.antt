@@ -21,6 +21,7 @@ use Rattle.syncrepl_tool.specs.Cascade.{WritesPrefix, WritesReport, WritesWhole,
 
 -- ---- a flush leaves what was written
 
+-- a prefix of a report is one still where nothing more is written
 pub prefix_kept : {script : ScriptReader} {a b : Option (List ℕ)} → WritesPrefix script a b → (c : Option (List ℕ)) → Keeps b c → WritesPrefix script a c
 prefix_kept {script} {a} {b} f c k = record {
   orders = f.orders;
@@ -48,6 +49,7 @@ report_kept {script} {a} {b} w c k = record {
   written = Appends-kept a b c _ w.written k;
 }
 
+-- so is a report up to a refused line
 pub up_to_kept : {script : ScriptReader} {a b : Option (List ℕ)} {end : WorldState} {line : ℕ} {cause : Cause} → WritesUpTo script a b end line cause → (c : Option (List ℕ)) → Keeps b c → WritesUpTo script a c end line cause
 up_to_kept w c k = record { rest = w.rest; report = report_kept w.report c k; refusal = w.refusal }
 
@@ -73,16 +75,19 @@ reader_of_prefix text rest short =
           ap reader_of (sym (append-nil text)) ∙ ap (λ r. reader_of (text ++ r)) (sym (short within))
     ]
 
+-- what holds of the script of a text that was read to its end holds of the bytes that were left
 pub at_prefix : (old new : Option (List ℕ)) (text : List ℕ) → IsPrefixOf old new text → (P : ScriptReader → Type 0) → P (reader_of text) → IfSome old (λ all. P (reader_of all))
 at_prefix None new text f P h = tt
 at_prefix (Some all) new text f P h =
     let same : reader_of text ≡ reader_of all = reader_of_prefix text f.prefix.0 f.prefix.2 ∙ ap reader_of (sym f.prefix.1) in
     subst P same h
 
+-- what follows of what there is holds of it
 pub if_some_map : {A : Type 0} (o : Option A) (P Q : A → Type 0) → ((a : A) → P a → Q a) → IfSome o P → IfSome o Q
 if_some_map None P Q h p = tt
 if_some_map (Some a) P Q h p = h a p
 
+-- so does what was written of its report
 pub prefix_of : {old new : Option (List ℕ)} {text : List ℕ} → IsPrefixOf old new text → (a b : Option (List ℕ)) → WritesPrefix (reader_of text) a b → IfSome old (λ all. WritesPrefix (reader_of all) a b)
 prefix_of {old} {new} {text} prefix a b w = at_prefix old new text prefix (λ script. WritesPrefix script a b) w
 
@@ -121,6 +126,7 @@ abbrev Ended' : List ℕ → Option (List ℕ) → Option (List ℕ) → WorldSt
 Ended' text a b end before now unsaid said f t code = RunEnds (reader_of text) a b end before now unsaid said f t code
 
 module _ {old new : Option (List ℕ)} {text : List ℕ} (prefix : IsPrefixOf old new text) (a b : Option (List ℕ)) (end : WorldState) (before now : ℕ) (unsaid said : Option (List ℕ)) (f t code : ℕ) where
+  -- with status 0 the text is a script, and its whole report was written
   pub done_of : Ended' text a b end before now unsaid said f t code → code ≡ 0 → IfSome old (λ all. IsScript all × WritesWhole (reader_of all) a b end)
   done_of (inl done) zero' =
       if_some_map old (λ all. WritesWhole (reader_of all) a b end) _ (λ all w. (script_of all w, w)) (at_prefix old new text prefix (λ script. WritesWhole script a b end) done.1)
@@ -128,24 +134,28 @@ module _ {old new : Option (List ℕ)} {text : List ℕ} (prefix : IsPrefixOf ol
   done_of (inr (inl (inr eight, refused))) zero' = absurd (omega (arith, eight))
   done_of (inr (inr fault)) zero' = absurd (omega (arith, fault.0))
 
+  -- with status 0 the input was read to its end
   pub end_of : Ended' text a b end before now unsaid said f t code → code ≡ 0 → IsAtEnd new
   end_of (inl done) zero' = prefix.end (within text (script_of text done.1))
   end_of (inr (inl (inl three, refused))) zero' = absurd (omega (arith, three))
   end_of (inr (inl (inr eight, refused))) zero' = absurd (omega (arith, eight))
   end_of (inr (inr fault)) zero' = absurd (omega (arith, fault.0))
 
+  -- with status 0 nothing was said
   pub quiet_of : Ended' text a b end before now unsaid said f t code → code ≡ 0 → Keeps unsaid said
   quiet_of (inl done) zero' = done.2
   quiet_of (inr (inl (inl three, refused))) zero' = absurd (omega (arith, three))
   quiet_of (inr (inl (inr eight, refused))) zero' = absurd (omega (arith, eight))
   quiet_of (inr (inr fault)) zero' = absurd (omega (arith, fault.0))
 
+  -- a text that was read ends with no read fault
   pub no_read_fault : Ended' text a b end before now unsaid said f t code → code ≡ 4 → ⊥
   no_read_fault (inl done) four = omega (arith, done.0)
   no_read_fault (inr (inl (inl three, refused))) four = omega (arith, three)
   no_read_fault (inr (inl (inr eight, refused))) four = omega (arith, eight)
   no_read_fault (inr (inr fault)) four = omega (arith, fault.0)
 
+  -- with status 5 the output counted a fault, which is said
   pub write_fault_of : Ended' text a b end before now unsaid said f t code → code ≡ 5 → CountHasRisen before now × Says write_fault_text unsaid said f t
   write_fault_of (inl done) five = absurd (omega (arith, done.0))
   write_fault_of (inr (inl (inl three, refused))) five = absurd (omega (arith, three))
@@ -165,6 +175,7 @@ module _ {old new : Option (List ℕ)} {text : List ℕ} (prefix : IsPrefixOf ol
   not_script_of {line} {cause} w =
       if_some_map old (λ all. WritesUpTo (reader_of all) a b end line cause) _ (λ all w'. no_script all w') (at_prefix old new text prefix (λ script. WritesUpTo script a b end line cause) w)
 
+  -- with status 3 or 8 the text is no script without a refusal
   pub no_script_of : Ended' text a b end before now unsaid said f t code → IsRefusedStatus code → IfSome old (λ all. IsScript all → ⊥)
   no_script_of (inl done) (inl three) = absurd (omega (arith, done.0, three))
   no_script_of (inl done) (inr eight) = absurd (omega (arith, done.0, eight))
@@ -172,6 +183,7 @@ module _ {old new : Option (List ℕ)} {text : List ℕ} (prefix : IsPrefixOf ol
   no_script_of (inr (inr fault)) (inl three) = absurd (omega (arith, fault.0, three))
   no_script_of (inr (inr fault)) (inr eight) = absurd (omega (arith, fault.0, eight))
 
+  -- where the output counted no fault, the status says whether the text is a script
   pub decides_of : Ended' text a b end before now unsaid said f t code → (CountHasRisen before now → ⊥) → IfSome old (Decides code)
   decides_of (inl done) no_fault =
       if_some_map old (λ all. WritesWhole (reader_of all) a b end) _ (λ all w. record { script = λ is. done.0; other = λ no. absurd (no (script_of all w)) })
@@ -192,6 +204,7 @@ status_is (LaterCookie held given) = inl refl
 status_is Circle = inl refl
 status_is NoMemory = inl refl
 
+-- a run ends at a refused line with the status of its cause, which is said
 pub refused_ends : {script : ScriptReader} {a b : Option (List ℕ)} {end : WorldState} (before now : ℕ) {unsaid said : Option (List ℕ)} {f t code line : ℕ} {cause : Cause}
     → WritesUpTo script a b end line cause → code ≡ status_of cause → Says (refusal_text line cause) unsaid said f t → RunEnds script a b end before now unsaid said f t code
 refused_ends {script} {a} {b} {end} before now {unsaid} {said} {f} {t} {code} {line} {cause} w is says =

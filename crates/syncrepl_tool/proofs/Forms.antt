@@ -1,9 +1,9 @@
 -- The forms of the words.
-use Rattle.std.proofs.Common.{◌≡◌, ℕ, true, false, List, [], ◌∷◌, length, get_or, codes, string_bytes, inl, inr, refl, sym, ap, subst, ◌∙◌, arith}
+use Rattle.std.proofs.Common.{◌≡◌, ℕ, true, false, List, [], ◌∷◌, length, get_or, codes, string_bytes, refl, sym, ap, subst, ◌∙◌, arith}
 use Rattle.std.specs.declared.alloc.Global.{Global}
 use Rattle.std.specs.declared.string.String.{String}
-use Rattle.syncrepl_tool.specs.Cascade.{IsCascade, IsStatus}
-use Rattle.syncrepl_tool.specs.Serve.{IsServe, IsServeStatus, begins_with_dash}
+use Rattle.syncrepl_tool.specs.Cascade.{IsCascade}
+use Rattle.syncrepl_tool.specs.Serve.{IsServe, begins_with_dash}
 
 -- no words are of both forms
 pub not_both : (words : List (String Global)) (name : List ℕ) → IsCascade words → IsServe words name → ⊥
@@ -18,23 +18,9 @@ same_name (word ∷ []) name other one two = absurd one
 same_name (word ∷ file ∷ []) name other one two = sym one.1 ∙ two.1
 same_name (word ∷ file ∷ more ∷ words) name other one two = absurd one
 
-pub status_of_serve : (code : ℕ) → IsServeStatus code → IsStatus code
-status_of_serve code (inl zero) = inr (inr (inl zero))
-status_of_serve code (inr (inl three)) = inr (inr (inr (inl three)))
-status_of_serve code (inr (inr (inl four))) = inr (inr (inr (inr (inl four))))
-status_of_serve code (inr (inr (inr (inl seven)))) = inr (inl seven)
-status_of_serve code (inr (inr (inr (inr eight)))) = inr (inr (inr (inr (inr (inr eight)))))
-
--- the status of other words is not one of `serve`
-pub not_usage : (code : ℕ) → IsServeStatus code → code ≡ 2 → ⊥
-not_usage code (inl zero) two = omega (arith, zero, two)
-not_usage code (inr (inl three)) two = omega (arith, three, two)
-not_usage code (inr (inr (inl four))) two = omega (arith, four, two)
-not_usage code (inr (inr (inr (inl seven)))) two = omega (arith, seven, two)
-not_usage code (inr (inr (inr (inr eight)))) two = omega (arith, eight, two)
-
 -- ---- the words `serve FILE`
 
+-- two words are `serve FILE` where the first is `serve`, and the second begins with no `-`
 pub serve_is : (words : List (String Global)) (word file : String Global) → length words ≡ 2 → word ≡ get_or words 0 word → file ≡ get_or words 1 file
     → string_bytes word ≡ codes "serve" → begins_with_dash (string_bytes file) ≡ false → IsServe words (string_bytes file)
 serve_is [] word file two first second serve dash = absurd (omega (arith, two))
@@ -43,12 +29,14 @@ serve_is (w ∷ f ∷ []) word file two first second serve dash =
     (subst (λ (s : String Global). string_bytes s ≡ codes "serve") first serve, sym (ap (λ (s : String Global). string_bytes s) second), dash)
 serve_is (w ∷ f ∷ more ∷ words) word file two first second serve dash = absurd (omega (arith, two))
 
+-- more or fewer words are not
 pub not_serve_length : (words : List (String Global)) (name : List ℕ) → (length words ≡ 2 → ⊥) → IsServe words name → ⊥
 not_serve_length [] name other serve = serve
 not_serve_length (w ∷ []) name other serve = serve
 not_serve_length (w ∷ f ∷ []) name other serve = other refl
 not_serve_length (w ∷ f ∷ more ∷ words) name other serve = serve
 
+-- nor are two of which the first is another
 pub not_serve_word : (words : List (String Global)) (name : List ℕ) (word : String Global) → word ≡ get_or words 0 word
     → (string_bytes word ≡ codes "serve" → ⊥) → IsServe words name → ⊥
 not_serve_word [] name word first other serve = serve
@@ -57,6 +45,7 @@ not_serve_word (w ∷ f ∷ []) name word first other serve =
     other (subst (λ (s : String Global). string_bytes s ≡ codes "serve") (sym first) serve.0)
 not_serve_word (w ∷ f ∷ more ∷ words) name word first other serve = serve
 
+-- nor are two of which the second begins with `-`
 pub not_serve_dash : (words : List (String Global)) (name : List ℕ) (file : String Global) → file ≡ get_or words 1 file
     → begins_with_dash (string_bytes file) ≡ true → IsServe words name → ⊥
 not_serve_dash [] name file second dash serve = serve

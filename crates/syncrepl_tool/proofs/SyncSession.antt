@@ -31,12 +31,14 @@ pub record SoFar (script : ScriptReader) (state : WorldState) (reader : ScriptRe
   pub written : Appends old new (report_text report)
   pub later : before ≤ now
 
+-- at first no event is done, and nothing is written
 pub start : (state : WorldState) (reader : ScriptReader) (held : Option (List ℕ)) (n : ℕ) → state ≡ no_nodes → SoFar reader state reader held held n n
 start state reader held n fresh = record { orders = []; report = []; run = (sym fresh, refl); written = Appends-nil held; later = omega arith }
 
 report_text-push : (report : List (List ReportLine)) (reported : List ReportLine) → report_text report ++ lines_text reported ≡ report_text (report ++ reported ∷ [])
 report_text-push report reported = flat_map_more lines_text [] report reported
 
+-- one event more is done, and its lines are written
 pub go_on : {script reader : ScriptReader} {state : WorldState} {old new : Option (List ℕ)} {before now : ℕ} → SoFar script state reader old new before now
     → (line : ℕ) (order : Order) (after : ScriptReader) (next : WorldState) (text : List ℕ) (held : Option (List ℕ)) (count : ℕ)
     → next_in reader ≡ Got line order after → IsStep (step state order) next text → Appends new held text → now ≤ count → SoFar script next after old held before count
@@ -50,6 +52,7 @@ go_on {script} {reader} {state} {old} {new} s line order after next text held co
       later = omega (arith, s.later);
     }
 
+-- what was written is the report of the events so far
 pub written_report : {script reader : ScriptReader} {state : WorldState} {old new : Option (List ℕ)} {before now : ℕ} → SoFar script state reader old new before now → WritesReport script old new state reader
 written_report {script} {reader} {state} s = record {
   orders = s.orders;
@@ -62,6 +65,7 @@ written_report {script} {reader} {state} s = record {
   written = s.written;
 }
 
+-- which begins the report of the whole script
 pub prefix_so_far : {script reader : ScriptReader} {state : WorldState} {old new : Option (List ℕ)} {before now : ℕ} → SoFar script state reader old new before now → WritesPrefix script old new
 prefix_so_far {script} {reader} {state} s = record {
   orders = s.orders;

@@ -18,7 +18,8 @@ use Rattle.cascade_world.specs.ReportLines.{ReportLine, lines_text, report_text}
 use Rattle.cascade_laws.specs.Run.{Runs, IsRefusal, IsScript, AreHeld}
 use Rattle.cascade_world.specs.Trace.{AreTraced, all_lines}
 use Rattle.cascade_world.specs.World.{WorldState, no_nodes}
-use Rattle.syncrepl_tool.specs.Serve.{IsServe}
+use Rattle.syncrepl_tool.specs.Searching.{IsSearch, IsSearchStatus, SearchAsked}
+use Rattle.syncrepl_tool.specs.Serve.{IsServe, IsServeStatus}
 use Rattle.syncrepl_tool.specs.Texts.{Says, refusal_text, read_fault_text, write_fault_text}
 use Rattle.syncrepl_tool.specs.declared.run.Status.{Status}
 use Rattle.syncrepl_tool.specs.declared.run.Outcome.{Outcome}
@@ -145,12 +146,19 @@ IsCascade (word ∷ other ∷ words) = ⊥
 abbrev pub IsCascadeStatus : ℕ → Type 0
 IsCascadeStatus code = (code ≡ 0) ⊎ (code ≡ 3) ⊎ (code ≡ 4) ⊎ (code ≡ 5) ⊎ (code ≡ 8)
 
-abbrev pub IsStatus : ℕ → Type 0
-IsStatus code = (code ≡ 2) ⊎ (code ≡ 7) ⊎ IsCascadeStatus code
-
 -- the words are one of the forms that the program knows
 abbrev pub IsForm : List (String Global) → Type 0
-IsForm words = IsCascade words ⊎ ((name : List ℕ) × IsServe words name)
+IsForm words =
+    IsCascade words ⊎ ((name : List ℕ) × IsServe words name)
+    ⊎ ((asked : SearchAsked) × IsSearch words asked)
+
+-- a status with which words of this form may end, or 2 for words of none
+abbrev pub IsStatus : List (String Global) → ℕ → Type 0
+IsStatus words code =
+    ((code ≡ 2) × (IsForm words → ⊥))
+    ⊎ (IsCascade words × IsCascadeStatus code)
+    ⊎ ((name : List ℕ) × IsServe words name × IsServeStatus code)
+    ⊎ ((asked : SearchAsked) × IsSearch words asked × IsSearchStatus code)
 
 -- a script without a refusal is done, and any other text is refused
 pub record Decides (code : ℕ) (text : List ℕ) : Type 0 where

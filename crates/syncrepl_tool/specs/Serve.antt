@@ -1,5 +1,5 @@
 -- What `serve FILE` reads, serves and says.
-use Rattle.std.specs.Prelude.{◌≡◌, ◌≢◌, ◌⊎◌, ◌<◌, ℕ, Bool, nat_eq, false, List, [], ◌∷◌, ◌++◌, Option, Result, IfOk, OnErr, option_map, codes}
+use Rattle.std.specs.Prelude.{◌≡◌, ◌≢◌, ◌⊎◌, ◌<◌, ℕ, Bool, nat_eq, false, List, [], ◌∷◌, ◌++◌, Option, Result, IfOk, OnErr, codes}
 use Rattle.std.specs.Fmt.{decimal}
 use Rattle.std.specs.List.{starts_with}
 use Rattle.std.specs.Io.KnownBytes.{Keeps}
@@ -9,16 +9,14 @@ use Rattle.std.specs.declared.string.String.{String}
 use Rattle.sync_config.specs.declared.fault.ConfigFault.{ConfigFault}
 use Rattle.sync_config.specs.declared.fault.ConfigFault.TheVariants as config
 use Rattle.sync_io.specs.Faults.{CountHasRisen}
-use Rattle.sync_io.specs.Net.{Served, listens}
-use Rattle.sync_provider.specs.Journal.{JournalledProvider}
+use Rattle.sync_io.specs.Net.{Served}
 use Rattle.directory_setup.specs.Setup.{Files, IsReady, IsRefusedSetup}
 use Rattle.directory_setup.specs.declared.refusal.LineCause.{LineCause}
 use Rattle.directory_setup.specs.declared.refusal.LineCause.TheVariants as line
-use Rattle.directory_setup.specs.declared.refusal.Refusal.{Refusal}
-use Rattle.directory_setup.specs.declared.refusal.Refusal.TheVariants.{AtLine, InConfig}
+use Rattle.directory_setup.specs.declared.refusal.SetupRefusal.{SetupRefusal}
+use Rattle.directory_setup.specs.declared.refusal.SetupRefusal.TheVariants.{AtLine, InConfig}
 use Rattle.directory_setup.specs.declared.setup.ReadyDirectory.{ReadyDirectory}
-use Rattle.ldap_listener.specs.Serving.{ServesAll}
-use Rattle.ldap_listener.specs.Sessions.{LinkView}
+use Rattle.syncrepl_tool.specs.Serving.{AnyEnd, HasListened, HasMemory, IsServedAt, NetView}
 use Rattle.syncrepl_tool.specs.Texts.{Says, read_fault_text}
 use Rattle.syncrepl_tool.specs.declared.run.Status.{Status}
 
@@ -54,7 +52,7 @@ config_fault_text (config.MissingKey key) = codes "MissingKey " ++ key
 config_fault_text (config.BadValue key) = codes "BadValue " ++ key
 config_fault_text config.NoMemory = codes "NoMemory"
 
-unfoldable pub setup_refusal_text : Refusal → List ℕ
+unfoldable pub setup_refusal_text : SetupRefusal → List ℕ
 setup_refusal_text (InConfig fault) =
     codes "syncrepl: config: " ++ config_fault_text fault ++ codes "\n"
 setup_refusal_text (AtLine number cause) =
@@ -67,7 +65,7 @@ abbrev pub line_status : LineCause → ℕ
 line_status (line.LimitReached limit) = 8
 line_status _ = 3
 
-abbrev pub refusal_status : Refusal → ℕ
+abbrev pub refusal_status : SetupRefusal → ℕ
 refusal_status (InConfig fault) = 3
 refusal_status (AtLine number cause) = line_status cause
 
@@ -103,10 +101,15 @@ abbrev pub SaysText : {L C M : Type 0} → List ℕ → Outside L C M → Outsid
 SaysText text before after =
     Says text before.said after.said before.said_faults after.said_faults
 
+-- no file failed to be read, and no random word to come
+abbrev pub AllCame : {L C M : Type 0} → Outside L C M → Outside L C M → Type 0
+AllCame before after =
+    (after.shelf_faults ≡ before.shelf_faults) × (after.word_faults ≡ before.word_faults)
+
 -- a refusal, whose status this is, was said, and nobody was listened to
 pub record IsRefusedWith {L C M : Type 0}
     (name : List ℕ) (before after : Outside L C M) (code : ℕ) : Type 0 where
-  pub refusal : Refusal
+  pub refusal : SetupRefusal
   pub status : refusal_status refusal ≡ code
   pub says : SaysText (setup_refusal_text refusal) before after
   pub refused : IsRefusedSetup before.files name refusal
@@ -114,44 +117,36 @@ pub record IsRefusedWith {L C M : Type 0}
 
 -- the directory of the configuration was served at its address, to as many connections as it says
 pub record IsServedBy {L C M : Type 0}
-    (v : LinkView L) (name : List ℕ) (before after : Outside L C M) : Type 0 where
+    (v : NetView L C M) (name : List ℕ) (before after : Outside L C M) : Type 0 where
   pub ready : ReadyDirectory
   pub is_ready : IsReady before.files name ready
-  pub last : JournalledProvider
-  pub connections : ℕ
-  pub serves :
-      ServesAll v ready.access ready.seats ready.provider last connections
-      (option_map (listens ready.listen) before.served) after.served
-  pub all : connections ≡ ready.connections
-  pub some : 0 < connections
+  pub serves : IsServedAt v HasMemory ready ready.connections before.served after.served
+  pub some : 0 < ready.connections
 
 -- the same up to some connection, after which none was accepted
 pub record IsCutShort {L C M : Type 0}
-    (v : LinkView L) (name : List ℕ) (before after : Outside L C M) : Type 0 where
+    (v : NetView L C M) (name : List ℕ) (before after : Outside L C M) : Type 0 where
   pub ready : ReadyDirectory
   pub is_ready : IsReady before.files name ready
-  pub last : JournalledProvider
   pub connections : ℕ
-  pub serves :
-      ServesAll v ready.access ready.seats ready.provider last connections
-      (option_map (listens ready.listen) before.served) after.served
+  pub serves : IsServedAt v AnyEnd ready connections before.served after.served
 
 -- the net was asked to listen at its address, and no connection was accepted
 pub record IsUnheard {L C M : Type 0}
     (name : List ℕ) (before after : Outside L C M) : Type 0 where
   pub ready : ReadyDirectory
   pub is_ready : IsReady before.files name ready
-  pub served : after.served ≡ option_map (listens ready.listen) before.served
+  pub listened : HasListened ready before.served after.served
 
 -- the net failed: as it listened, or after some connections were served
-abbrev pub FailsAtNet : {L C M : Type 0} → LinkView L → List ℕ → Outside L C M → Outside L C M
+abbrev pub FailsAtNet : {L C M : Type 0} → NetView L C M → List ℕ → Outside L C M → Outside L C M
     → Type 0
 FailsAtNet v name before after = IsUnheard name before after ⊎ IsCutShort v name before after
 
 -- Memory ran out, and the net counted no fault: it was not asked to listen; or no connection was
 -- accepted; or those that were accepted were served, and no other was.
 pub record RunsOut {L C M : Type 0}
-    (v : LinkView L) (name : List ℕ) (before after : Outside L C M) : Type 0 where
+    (v : NetView L C M) (name : List ℕ) (before after : Outside L C M) : Type 0 where
   pub faultless : after.net_faults ≡ before.net_faults
   pub stops :
       (after.served ≡ before.served) ⊎ IsUnheard name before after ⊎ IsCutShort v name before after
@@ -175,44 +170,34 @@ net_side said said_faults served net_faults = record {
   net_faults = net_faults;
 }
 
--- the net was asked to listen at the directory's address
-abbrev pub HasListened : {L C M : Type 0} → ReadyDirectory → NetSide L C M → NetSide L C M → Type 0
-HasListened ready before after = after.served ≡ option_map (listens ready.listen) before.served
-
--- n connections were served at its address
-abbrev pub IsServedAt : {L C M : Type 0} → LinkView L → ReadyDirectory → (n : ℕ)
-    → NetSide L C M → NetSide L C M → Type 0
-IsServedAt v ready n before after =
-    (last : JournalledProvider)
-    × ServesAll v ready.access ready.seats ready.provider last n
-    (option_map (listens ready.listen) before.served) after.served
-
 -- serving it may end with this status
 pub record MayServe {L C M : Type 0}
-    (v : LinkView L) (ready : ReadyDirectory) (before after : NetSide L C M) (status : Status)
+    (v : NetView L C M) (ready : ReadyDirectory) (before after : NetSide L C M) (status : Status)
     : Type 0 where
   pub codes_are : (status.code ≡ 0) ⊎ (status.code ≡ 7)
   pub done : status.code ≡ 0
-      → (0 < ready.connections) × IsServedAt v ready ready.connections before after
+      → (0 < ready.connections)
+      × IsServedAt v HasMemory ready ready.connections before.served after.served
   pub quiet : status.code ≡ 0 → Keeps before.said after.said
   pub faultless : status.code ≡ 0 → after.net_faults ≡ before.net_faults
   pub net_fault : status.code ≡ 7 → CountHasRisen before.net_faults after.net_faults
   pub net_fault_reported : status.code ≡ 7
       → Says net_fault_text before.said after.said before.said_faults after.said_faults
   pub cut_short : status.code ≡ 7
-      → HasListened ready before after ⊎ ((n : ℕ) × IsServedAt v ready n before after)
+      → HasListened ready before.served after.served
+      ⊎ ((n : ℕ) × IsServedAt v AnyEnd ready n before.served after.served)
 
 -- memory ran out while it was to be served, or was served
 pub record RunsOutReady {L C M : Type 0}
-    (v : LinkView L) (ready : ReadyDirectory) (before after : NetSide L C M) : Type 0 where
+    (v : NetView L C M) (ready : ReadyDirectory) (before after : NetSide L C M) : Type 0 where
   pub faultless : after.net_faults ≡ before.net_faults
   pub stops :
-      (after.served ≡ before.served) ⊎ HasListened ready before after
-      ⊎ ((n : ℕ) × IsServedAt v ready n before after)
+      (after.served ≡ before.served) ⊎ HasListened ready before.served after.served
+      ⊎ ((n : ℕ) × IsServedAt v AnyEnd ready n before.served after.served)
 
 -- how serving it ends
 pub record EndsReady {L C M E : Type 0}
-    (v : LinkView L) (ready : ReadyDirectory) (before after : NetSide L C M)
+    (v : NetView L C M) (ready : ReadyDirectory) (before after : NetSide L C M)
     (answer : Result Status E) : Type 0 where
   pub with_status : IfOk answer (MayServe v ready before after)
   pub without_memory : OnErr answer (RunsOutReady v ready before after)
@@ -221,7 +206,7 @@ pub record EndsReady {L C M E : Type 0}
 
 -- `serve FILE` may end with this status
 pub record MayServeWith {L C M : Type 0}
-    (v : LinkView L) (name : List ℕ) (before after : Outside L C M) (status : Status)
+    (v : NetView L C M) (name : List ℕ) (before after : Outside L C M) (status : Status)
     : Type 0 where
   pub codes_are : IsServeStatus status.code
   pub done : status.code ≡ 0 → IsServedBy v name before after
@@ -232,15 +217,25 @@ pub record MayServeWith {L C M : Type 0}
       → CountHasRisen before.shelf_faults after.shelf_faults
       ⊎ CountHasRisen before.word_faults after.word_faults
   pub read_fault_reported : status.code ≡ 4 → SaysText read_fault_text before after
+  pub all_came : status.code ≢ 4 → AllCame before after
   pub unheard : status.code ≡ 4 → after.served ≡ before.served
   pub net_fault : status.code ≡ 7 → CountHasRisen before.net_faults after.net_faults
   pub faultless : status.code ≢ 7 → after.net_faults ≡ before.net_faults
   pub net_fault_reported : status.code ≡ 7 → SaysText net_fault_text before after
   pub cut_short : status.code ≡ 7 → FailsAtNet v name before after
 
--- how `serve FILE` ends
+-- neither the configuration nor its file is refused, and nothing failed
+pub record HasNoCause {L C M : Type 0}
+    (name : List ℕ) (before after : Outside L C M) : Type 0 where
+  pub unrefused : (refusal : SetupRefusal) → IsRefusedSetup before.files name refusal → ⊥
+  pub shelf : CountHasRisen before.shelf_faults after.shelf_faults → ⊥
+  pub words : CountHasRisen before.word_faults after.word_faults → ⊥
+  pub net : CountHasRisen before.net_faults after.net_faults → ⊥
+
+-- how `serve FILE` ends: without a cause for another end all connections were served
 pub record EndsServing {L C M E : Type 0}
-    (v : LinkView L) (name : List ℕ) (before after : Outside L C M) (answer : Result Status E)
+    (v : NetView L C M) (name : List ℕ) (before after : Outside L C M) (answer : Result Status E)
     : Type 0 where
   pub with_status : IfOk answer (MayServeWith v name before after)
+  pub complete : IfOk answer (λ status. HasNoCause name before after → status.code ≡ 0)
   pub without_memory : OnErr answer (RunsOut v name before after)

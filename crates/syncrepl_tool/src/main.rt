@@ -1,13 +1,20 @@
 //! `syncrepl`: an LDAP directory with replication by content synchronisation, driven by a script or
-//! served over a net.
+//! served over a net; and a client that searches one.
 #![tactic(auto)]
 
 #[cfg(test)]
 mod cut_tests;
+#[cfg(test)]
+mod following_tests;
 mod run;
+#[cfg(test)]
+mod search_tests;
+mod search_words;
+mod searching;
 mod serve;
 #[cfg(test)]
 mod serve_tests;
+mod serving;
 #[cfg(test)]
 mod tests;
 

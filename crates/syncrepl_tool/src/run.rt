@@ -5,11 +5,16 @@ ghost use Rattle.cascade_script.specs.Reader.{reader_of};
 ghost use Rattle.cascade_world.specs.World.{no_nodes};
 ghost use Rattle.std.specs.String.{string_bytes};
 ghost use Rattle.cascade_script.specs.declared.fault.Cause.TheVariants.{NoMemory};
+ghost use Rattle.syncrepl_tool.specs.Serving.{net_view};
 ghost use Rattle.syncrepl_tool.specs.Texts.{Says, usage_text, read_fault_text, write_fault_text, refusal_text, cause_text, limit_text, later_cookie_text};
 ghost use Rattle.syncrepl_tool.specs.Cascade.{WritesPrefix, status_of, Ends, RunEnds, IsInput, OnCode, Decides, IsCascade, IsForm, IsStatus, IsCascadeStatus, streams, MayEndWith};
 ghost use Rattle.ldap_listener.specs.Sessions.{seen_by};
 ghost use Rattle.syncrepl_tool.specs.Serve.{EndsServing, IsServe, outside};
+ghost use Rattle.syncrepl_tool.specs.Searching.{EndsSearch, IsNoSearch, IsSearch, SearchAsked, search_side};
+ghost use Rattle.ldap_client.specs.Links.{link_by};
 
+use crate::search_words::search_words;
+use crate::searching::search_for;
 use crate::serve::serve_with;
 use cascade_world::{Cause, NoMemory, Script, ScriptFault, World, read_event};
 use ldap_ber::Octets;
@@ -26,11 +31,12 @@ const MOST_BYTES: usize = 67_108_864;
 #[derive(Clone, Copy, Debug, PartialEq, Eq)]
 pub struct Status {
     /// 0 done, 2 other words, 3 a refused text, 4 a read fault, 5 a write fault, 7 a net fault, 8 a
-    /// text that passes a limit.
+    /// text that passes a limit, 9 a fault of the peer.
     pub code: u8,
 }
 
-/// Does what the words say. They leave out the program's name.
+/// Does what the words say. They leave out the program's name. It is `NoMemory` where memory runs
+/// out, but never for words of no form.
 pub fn run<
     R: Threads + Wait + Sync,
     I: Source,
@@ -62,7 +68,7 @@ pub fn run<
     // line. A search is refused with e-syncRefreshRequired exactly where the consumer's cookie is
     // in its way. Each consumer is what the lines of its messages make of it. Each event gives the
     // lines that belong to it, and no others.
-    ensures headline { IfSome (I.bytes_left input.old) (λ text.
+    ensures headline { IsNoSearch words.now → IfSome (I.bytes_left input.old) (λ text.
         WritesPrefix (reader_of text) (O.bytes_held output.old) (O.bytes_held output.new)) }
 
     ensures answer { IsCascade words.now → IfOk result (MayEndWith
@@ -76,8 +82,12 @@ pub fn run<
 
     // The directory of a configuration is served to each connection, by its own session of LDAP.
     ensures serves { (name : List ℕ) → IsServe words.now name → EndsServing
+        (net_view
         (seen_by N.Link.bytes_left N.Link.bytes_read N.Link.bytes_held
         N.Link.read_fault_count N.Link.write_fault_count)
+        (link_by N.Caller.Link.bytes_left N.Caller.Link.bytes_read N.Caller.Link.bytes_held
+        N.Caller.Link.read_fault_count N.Caller.Link.write_fault_count)
+        N.Caller.dialled)
         name
         (outside (E.bytes_held errors.old) (E.write_fault_count errors.old)
         (F.files shelf.old) (F.shelf_fault_count shelf.old)
@@ -89,6 +99,23 @@ pub fn run<
     // What is served reads no input and writes no report.
     ensures apart { (name : List ℕ) → IsServe words.now name
         → (world.new ≡ world.old) × (input.new ≡ input.old) × (output.new ≡ output.old) }
+    // A search is asked over one link, and its answer, or a line for each cookie that it stores, is
+    // printed.
+    ensures searches { (asked : SearchAsked) → IsSearch words.now asked → EndsSearch
+        (link_by N.Caller.Link.bytes_left N.Caller.Link.bytes_read N.Caller.Link.bytes_held
+        N.Caller.Link.read_fault_count N.Caller.Link.write_fault_count)
+        N.Caller.dialled asked
+        (search_side (O.bytes_held output.old) (O.write_fault_count output.old)
+        (E.bytes_held errors.old) (E.write_fault_count errors.old)
+        (N.served net.old) (N.net_fault_count net.old))
+        (search_side (O.bytes_held output.new) (O.write_fault_count output.new)
+        (E.bytes_held errors.new) (E.write_fault_count errors.new)
+        (N.served net.new) (N.net_fault_count net.new))
+        result }
+    // It reads no input, no file and no random word.
+    ensures unread { (asked : SearchAsked) → IsSearch words.now asked
+        → (world.new ≡ world.old) × (input.new ≡ input.old) × (shelf.new ≡ shelf.old)
+        × (random.new ≡ random.old) }
     // A script is run without files, a net and random words.
     ensures alone { IsCascade words.now
         → (shelf.new ≡ shelf.old) × (net.new ≡ net.old) × (random.new ≡ random.old) }
@@ -101,12 +128,13 @@ pub fn run<
     // reported.
     ensures other { (IsForm words.now → ⊥) → IsOk result
         × (world.new ≡ world.old) × (input.new ≡ input.old) × (output.new ≡ output.old)
-        × (shelf.new ≡ shelf.old) × (net.new ≡ net.old) }
+        × (shelf.new ≡ shelf.old) × (net.new ≡ net.old) × (random.new ≡ random.old) }
 
     // Where there is no memory nothing was said.
     ensures unsaid { OnErr result (errors.new ≡ errors.old) }
 
-    ensures codes { IfOk result (λ status. IsStatus status.code) }
+    // Each form of the words has its statuses.
+    ensures codes { IfOk result (λ status. IsStatus words.now status.code) }
     // Where nothing failed, a script without a refusal is done, and every other text is refused.
     ensures complete { IfOk result (λ status. IsCascade words.now
         → (CountHasRisen (I.read_fault_count input.old) (I.read_fault_count input.new) → ⊥)
@@ -116,10 +144,13 @@ pub fn run<
     if is_cascade(words) {
         return run_cascade(alloc, world, input, output, errors);
     }
-    match served_file(words) {
-        Some(name) => serve_with(
+    if let Some(name) = served_file(words) {
+        return serve_with(
             rt, alloc, name, errors, shelf, net, *clock, random, &OpenGate,
-        ),
+        );
+    }
+    match search_words(words) {
+        Some(asked) => search_for(rt, alloc, asked, output, errors, net),
         None => Ok(usage(errors)),
     }
 }
@@ -227,7 +258,7 @@ pub(crate) fn read_fault<E: Sink>(errors: &mut E) -> Status
 }
 
 #[tactic(auto, unfolding(crate::specs::Texts::write_fault_text))]
-fn write_fault<E: Sink>(errors: &mut E) -> Status
+pub(crate) fn write_fault<E: Sink>(errors: &mut E) -> Status
     ensures code { result.code ≡ 5 }
     ensures says { Says write_fault_text
         (E.bytes_held errors.old) (E.bytes_held errors.new)

@@ -1,25 +1,25 @@
 //! How a directory is served to those who ask for it over a net.
 
-ghost use Rattle.std.specs.Prelude.{◌≡◌, ◌≤◌, ◌++◌, IfOk, OnErr};
+ghost use Rattle.std.specs.Prelude.{◌≡◌, ◌++◌, IfOk, OnErr};
+ghost use Rattle.ldap_client.specs.Links.{link_by};
 ghost use Rattle.ldap_listener.specs.Sessions.{seen_by};
 ghost use Rattle.syncrepl_tool.specs.Serve.{
-  EndsReady,
   EndsServing,
   config_fault_text,
   line_cause_text,
   line_status,
   net_fault_text,
-  net_side,
   outside,
   refusal_status,
   setup_refusal_text,
 };
+ghost use Rattle.syncrepl_tool.specs.Serving.{net_view};
 ghost use Rattle.syncrepl_tool.specs.Texts.{Says};
 
 use crate::run::{Status, end_with, read_fault, with_number};
-use directory_setup::{LineCause, ReadyDirectory, Refusal, Setup, set_up};
-use ldap_ber::{NoMemory, discard};
-use ldap_listener::{Limits, serve_directory};
+use crate::serving::serve_ready;
+use directory_setup::{LineCause, Setup, SetupRefusal, set_up};
+use ldap_ber::NoMemory;
 use ldap_server::Gate;
 use std::alloc::{AllocError, Global};
 use std::sync::Wait;
@@ -28,7 +28,8 @@ use sync_config::ConfigFault;
 use sync_io::{Clock, Net, NetFault, Shelf, Sink, Words};
 
 /// Serves the directory whose configuration stands in the file of this name, to the end of its last
-/// connection.
+/// connection. Where the configuration names another directory, that is followed meanwhile. It is
+/// `NoMemory` where memory runs out.
 pub fn serve_with<
     R: Threads + Wait + Sync,
     E: Sink,
@@ -49,8 +50,12 @@ pub fn serve_with<
     gate: &G,
 ) -> Result<Status, NoMemory>
     ensures serves { EndsServing
+        (net_view
         (seen_by N.Link.bytes_left N.Link.bytes_read N.Link.bytes_held
         N.Link.read_fault_count N.Link.write_fault_count)
+        (link_by N.Caller.Link.bytes_left N.Caller.Link.bytes_read N.Caller.Link.bytes_held
+        N.Caller.Link.read_fault_count N.Caller.Link.write_fault_count)
+        N.Caller.dialled)
         name.now
         (outside (E.bytes_held errors.old) (E.write_fault_count errors.old)
         (F.files shelf.old) (F.shelf_fault_count shelf.old)
@@ -71,57 +76,8 @@ pub fn serve_with<
     }
 }
 
-/// Listens at the address of a directory, and serves its connections.
-fn serve_ready<R: Threads + Wait + Sync, E: Sink, N: Net, K: Clock + Sync, G: Gate + Sync>(
-    rt: &R,
-    alloc: Global,
-    ready: ReadyDirectory,
-    errors: &mut E,
-    net: &mut N,
-    clock: K,
-    gate: &G,
-) -> Result<Status, NoMemory>
-    requires seats { (1 ≤ ready.seats) × (ready.seats ≤ 64) }
-    ensures serves { EndsReady
-        (seen_by N.Link.bytes_left N.Link.bytes_read N.Link.bytes_held
-        N.Link.read_fault_count N.Link.write_fault_count)
-        ready
-        (net_side (E.bytes_held errors.old) (E.write_fault_count errors.old)
-        (N.served net.old) (N.net_fault_count net.old))
-        (net_side (E.bytes_held errors.new) (E.write_fault_count errors.new)
-        (N.served net.new) (N.net_fault_count net.new))
-        result }
-    ensures unsaid { OnErr result (errors.new ≡ errors.old) }
-{
-    let door = match net.listen(ready.listen.as_str()) {
-        Ok(door) => door,
-        Err(fault) => {
-            discard(ready);
-            return net_failed(errors, fault);
-        }
-    };
-    let ReadyDirectory {
-        provider,
-        listen: _listen,
-        access,
-        seats,
-        connections,
-    } = ready;
-    let limits = Limits { seats, connections };
-    let Ok((provider, accepted)) = serve_directory(
-        rt, alloc, provider, &access, limits, net, door, clock, gate,
-    ) else {
-        return Err(AllocError);
-    };
-    discard(provider);
-    match accepted {
-        Ok(()) => Ok(Status { code: 0 }),
-        Err(fault) => net_failed(errors, fault),
-    }
-}
-
 /// Says that the net failed, unless memory ran out.
-fn net_failed<E: Sink>(errors: &mut E, fault: NetFault) -> Result<Status, NoMemory>
+pub(crate) fn net_failed<E: Sink>(errors: &mut E, fault: NetFault) -> Result<Status, NoMemory>
     ensures says { IfOk result (λ status. (fault ≡ NetFault.Failed) × (status.code ≡ 7)
         × Says net_fault_text
         (E.bytes_held errors.old) (E.bytes_held errors.new)
@@ -136,7 +92,7 @@ fn net_failed<E: Sink>(errors: &mut E, fault: NetFault) -> Result<Status, NoMemo
 }
 
 #[tactic(auto, unfolding(crate::specs::Serve::net_fault_text))]
-fn net_fault<E: Sink>(errors: &mut E) -> Status
+pub(crate) fn net_fault<E: Sink>(errors: &mut E) -> Status
     ensures code { result.code ≡ 7 }
     ensures says { Says net_fault_text
         (E.bytes_held errors.old) (E.bytes_held errors.new)
@@ -146,7 +102,11 @@ fn net_fault<E: Sink>(errors: &mut E) -> Status
 }
 
 /// Says why the directory is not served.
-fn refuse<E: Sink>(alloc: Global, errors: &mut E, refusal: &Refusal) -> Result<Status, NoMemory>
+fn refuse<E: Sink>(
+    alloc: Global,
+    errors: &mut E,
+    refusal: &SetupRefusal,
+) -> Result<Status, NoMemory>
     ensures says { IfOk result (λ status. (status.code ≡ refusal_status refusal.now)
         × Says (setup_refusal_text refusal.now)
         (E.bytes_held errors.old) (E.bytes_held errors.new)
@@ -158,12 +118,12 @@ fn refuse<E: Sink>(alloc: Global, errors: &mut E, refusal: &Refusal) -> Result<S
 }
 
 /// The status of a refusal.
-fn refusal_status(refusal: &Refusal) -> u8
+fn refusal_status(refusal: &SetupRefusal) -> u8
     ensures { result ≡ refusal_status refusal.now }
 {
     match refusal {
-        Refusal::InConfig(_) => 3,
-        Refusal::AtLine(_, cause) => line_status(*cause),
+        SetupRefusal::InConfig(_) => 3,
+        SetupRefusal::AtLine(_, cause) => line_status(*cause),
     }
 }
 
@@ -179,18 +139,18 @@ fn line_status(cause: LineCause) -> u8
 
 /// The text of a refusal.
 #[tactic(auto, unfolding(crate::specs::Serve::setup_refusal_text))]
-fn refusal_text(alloc: Global, refusal: &Refusal) -> Result<Vec<u8>, NoMemory>
+fn refusal_text(alloc: Global, refusal: &SetupRefusal) -> Result<Vec<u8>, NoMemory>
     ensures { IfOk result (λ text. text.items ≡ setup_refusal_text refusal.now) }
 {
     match refusal {
-        Refusal::InConfig(fault) => {
+        SetupRefusal::InConfig(fault) => {
             let name = config_fault_text(alloc, fault)?;
             let mut text = b"syncrepl: config: ".to_vec(alloc)?;
             text.extend_from_slice(&name)?;
             text.push(b'\n')?;
             Ok(text)
         }
-        Refusal::AtLine(line, cause) => {
+        SetupRefusal::AtLine(line, cause) => {
             let place = format!(in alloc; "syncrepl: line {line}: ")?;
             let name = line_cause_text(alloc, *cause)?;
             let mut text = place.as_bytes().to_vec(alloc)?;

@@ -96,14 +96,17 @@ begins_plain : (fold : Bool) (value : List ℕ) → 0 < length value → (get_or
 begins_plain fold [] some other ascii = absurd (omega arith)
 begins_plain fold (c ∷ cs) some other ascii = whole_key-plain fold c cs ascii other
 
+-- a test that is true only in ASCII shows that it is
 pub ascii_where : (value : List ℕ) (test : Bool) → MatchBool test (IsAscii value) (IsNotAscii value) → IsTrue test → IsAscii value
 ascii_where value true is passes = is
 ascii_where value false is passes = absurd (cc)
 
+-- such a value has a key where case is ignored
 pub plain_ignoring : (value : List ℕ) → 0 < length value → (get_or value 0 0 ≡ 32 → ⊥) → IsAscii value → is_some (ignore_case_key value) ≡ true
 unfolding ignore_case_key
 plain_ignoring value some other ascii = begins_plain true value some other ascii
 
+-- it has one where case counts
 pub plain_exact : (value : List ℕ) → 0 < length value → (get_or value 0 0 ≡ 32 → ⊥) → IsAscii value → is_some (exact_key value) ≡ true
 unfolding exact_key
 plain_exact value some other ascii = begins_plain false value some other ascii

@@ -22,6 +22,7 @@ number_by_test d [] true test number = rw (eqb-true d 48 test)
 number_by_test d (e ∷ ds) true test number = absurd (false≢true (rw test at number))
 number_by_test d ds false test number = rw test at number
 
+-- a number has at least one digit, and digits alone
 pub number_digits : (ds : List ℕ) → is_number ds ≡ true → (0 < length ds) × (list_all is_ascii_digit ds ≡ true)
 number_digits [] number = absurd (false≢true number)
 number_digits (d ∷ ds) number = (omega arith, number_by_test d ds (d == 48) refl number)

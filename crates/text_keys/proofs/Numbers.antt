@@ -8,6 +8,7 @@ use Rattle.std.specs.List.{list_all}
 use Rattle.std.specs.Str.Parse.{digits_value}
 use Rattle.text_keys.specs.Time.{number_at}
 
+-- decimal digits are a way to write numbers
 pub digits : IsNumeralModel (λ ds. list_all is_ascii_digit ds ≡ true) (digits_value 10)
 digits = numerals_by_value _ (search rules)
 
@@ -21,6 +22,7 @@ first_two ds at within =
     let next : suc at < length ds = omega arith in
     rw (add-one, drop-cons ds at 0 here, drop-cons ds (suc at) 0 next)
 
+-- what two digits write
 pub number_at-two : (ds : List ℕ) (at : ℕ) → at + 2 ≤ length ds → list_all is_ascii_digit ds ≡ true
     → number_at ds at (at + 2) ≡ 10 * (get_or ds at 0 - 48) + (get_or ds (at + 1) 0 - 48)
 unfolding number_at
@@ -30,12 +32,14 @@ number_at-two ds at within all =
     let units = digit_value_digit (get_or ds (at + 1) 0) (digit_in ds (at + 1) all (omega arith)) in
     rw (two, first_two ds at within) (omega arith)
 
+-- it is less than 100
 pub number_at-two-lt : (ds : List ℕ) (at : ℕ) → at + 2 ≤ length ds → list_all is_ascii_digit ds ≡ true → number_at ds at (at + 2) < 100
 number_at-two-lt ds at within all =
     let tens = digit_in ds at all (omega arith) in
     let units = digit_in ds (at + 1) all (omega arith) in
     rw (number_at-two ds at within all) (omega arith)
 
+-- what four digits write
 pub number_at-four : (ds : List ℕ) → 4 ≤ length ds → number_at ds 0 4 ≡ 100 * number_at ds 0 2 + number_at ds 2 4
 unfolding number_at
 number_at-four [] within = absurd (omega arith)

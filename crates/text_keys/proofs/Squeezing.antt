@@ -53,6 +53,7 @@ squeezed-end false true false apart = refl
 squeezed-end false false true apart = refl
 squeezed-end false false false apart = refl
 
+-- nothing is so and not so
 pub not_both : (b : Bool) → (b && not b) ≡ false
 not_both true = refl
 not_both false = refl

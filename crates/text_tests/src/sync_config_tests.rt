@@ -5,7 +5,7 @@ use ldap_ber::NoMemory;
 use std::alloc::{AllocError, Global};
 use std::process::Abort;
 use std::test::Fail;
-use sync_config::{Config, ConfigFault, Text};
+use sync_config::{Config, ConfigFault, ConfigText};
 
 /// What answers a configuration: `read`, or the fault with its key.
 fn answer(alloc: Global, text: &[u8]) -> Result<String, AllocError> {
@@ -70,8 +70,8 @@ const MORE: [Row; 44] = [
     ("connections = 9223372036854775807", "BadValue connections"),
     ("connections = 9223372036854775808", "NotToml"),
     ("upstream = 1", "BadValue upstream"),
-    ("upstream.address = 'a'", "BadValue upstream"),
-    ("[upstream]\naddress = 'localhost:389'", "BadValue upstream"),
+    ("upstream.address = 'a'", "MissingKey upstream.base"),
+    ("[upstream]\naddress = 1", "BadValue upstream.address"),
     ("sid = 1\nsid = 1", "NotToml"),
 ];
 
@@ -96,11 +96,82 @@ const WHOLE: [Row; 13] = [
     ("listen = 'a'\nsuffix = 'dc'", "BadValue suffix"),
     ("listen = 'a'\nsuffix = 'foo=1'", "BadValue suffix"),
     ("listen = 'a'\nsuffix = ['dc=x']", "BadValue suffix"),
-    ("listen = 'a'\n[upstream]", "BadValue upstream"),
+    ("listen = 'a'\n[upstream]", "MissingKey upstream.address"),
     ("listen = 'a'\nsuffix = 'dc'\n[upstream]", "BadValue suffix"),
     ("listen = 'a'\nldif = 'f'\n[upstream]", "BadValue ldif"),
     ("listen =", "NotToml"),
 ];
+
+/// A configuration that follows another directory has these lines at least.
+const UPSTREAM: &str =
+    "listen = 'a'\n[upstream]\naddress = 'b'\nbase = 'dc=x'\nscope = 'sub'\nfilter = '(ou=*)'\n";
+
+/// Lines that follow those, and the answer.
+const FOLLOWING: [Row; 11] = [
+    ("", "read"),
+    ("reload_hint = true", "read"),
+    ("reload_hint = false", "read"),
+    ("reload_hint = 1", "BadValue upstream.reload_hint"),
+    (
+        "reload_hint = 1\nrounds = -1",
+        "BadValue upstream.reload_hint",
+    ),
+    ("rounds = 0", "read"),
+    ("rounds = 1000000", "read"),
+    ("rounds = 1000001", "BadValue upstream.rounds"),
+    ("rounds = -1", "BadValue upstream.rounds"),
+    ("colour = 'green'", "read"),
+    ("base = 'dc=y'", "NotToml"),
+];
+
+/// Tables of an upstream, and the answer.
+const UPSTREAMS: [Row; 12] = [
+    ("address = 'b'", "MissingKey upstream.base"),
+    ("address = 'b'\nbase = ''", "MissingKey upstream.scope"),
+    (
+        "address = 'b'\nbase = ''\nscope = 'one'",
+        "MissingKey upstream.filter",
+    ),
+    (
+        "address = 'b'\nbase = ''\nscope = 'base'\nfilter = '(ou=a)'",
+        "read",
+    ),
+    ("address = 1", "BadValue upstream.address"),
+    ("address = 'b'\nbase = 'dc'", "BadValue upstream.base"),
+    ("address = 'b'\nbase = 1", "BadValue upstream.base"),
+    ("base = 'dc'", "MissingKey upstream.address"),
+    (
+        "address = 'b'\nbase = ''\nscope = 'subtree'",
+        "BadValue upstream.scope",
+    ),
+    (
+        "address = 'b'\nbase = ''\nscope = 1",
+        "BadValue upstream.scope",
+    ),
+    (
+        "address = 'b'\nbase = ''\nscope = 'sub'\nfilter = 'ou=a'",
+        "BadValue upstream.filter",
+    ),
+    (
+        "filter = '('\nscope = 'all'\nbase = ''\naddress = 'b'",
+        "BadValue upstream.scope",
+    ),
+];
+
+#[test]
+fn upstreams_are_judged(rt: HostRuntime) -> Result<(), Fail> {
+    for (more, wanted) in &FOLLOWING {
+        let text = format!(in rt.alloc(); "{UPSTREAM}{more}")?;
+        let found = answer(rt.alloc(), text.as_bytes())?;
+        assert_same(&rt, more, &found.as_str(), wanted);
+    }
+    for (table, wanted) in &UPSTREAMS {
+        let text = format!(in rt.alloc(); "listen = 'a'\n[upstream]\n{table}")?;
+        let found = answer(rt.alloc(), text.as_bytes())?;
+        assert_same(&rt, table, &found.as_str(), wanted);
+    }
+    Ok(())
+}
 
 /// Whole texts with two keys that are refused, of which the later one stands first, and the answer.
 const PAIRS: [Row; 10] = [
@@ -171,7 +242,7 @@ fn written(alloc: Global, name: &Option<Dn>) -> Result<String, NoMemory> {
 }
 
 /// The text, or `none`.
-fn text_of(text: &Option<Text>) -> &str {
+fn text_of(text: &Option<ConfigText>) -> &str {
     match text {
         Some(text) => text.as_str(),
         None => "none",
@@ -237,5 +308,42 @@ fn keys_have_the_values_of_their_lines(rt: HostRuntime) -> Result<(), Fail> {
         let found = shown(rt.alloc(), &config)?;
         assert_same(&rt, text, &found.as_str(), wanted);
     }
+    Ok(())
+}
+
+/// All that was read of an upstream, in the order of its keys, or `none`.
+fn upstream_shown(alloc: Global, config: &Config) -> Result<String, Fail> {
+    let Some(upstream) = &config.upstream else {
+        return Ok(String::from_str(alloc, "none")?);
+    };
+    let base = upstream.spec.base.write()?;
+    let filter = upstream.spec.filter.write_text(alloc)?;
+    let text = format!(in alloc;
+        "{} {} {:?} {} {} {}",
+        upstream.address.as_str(),
+        utf8(base.as_slice()),
+        upstream.spec.scope,
+        utf8(filter.as_slice()),
+        upstream.reload_hint,
+        config.rounds
+    )?;
+    Ok(text)
+}
+
+#[test]
+fn an_upstream_has_the_values_of_its_lines(rt: HostRuntime) -> Result<(), Fail> {
+    let rows = [
+        ("", "b dc=x Sub (ou=*) false 0"),
+        ("reload_hint = true\nrounds = 7", "b dc=x Sub (ou=*) true 7"),
+    ];
+    for (more, wanted) in &rows {
+        let text = format!(in rt.alloc(); "{UPSTREAM}{more}")?;
+        let config = Config::read(rt.alloc(), text.as_bytes())?;
+        let found = upstream_shown(rt.alloc(), &config)?;
+        assert_same(&rt, more, &found.as_str(), wanted);
+    }
+    let config = Config::read(rt.alloc(), LEAST.as_bytes())?;
+    let found = upstream_shown(rt.alloc(), &config)?;
+    assert_same(&rt, "no table", &found.as_str(), &"none");
     Ok(())
 }

@@ -62,6 +62,7 @@ module _ {D N X : Type 0} (journal : D → List (N × ℕ)) (share : D → ℕ �
   numbers-updated seats value [] all = tt
   numbers-updated seats value (pass ∷ passes) all = (all.0, numbers-updated seats value passes all.1)
 
+-- a seat in turn may count what its value has gained
 pub counts : {D N X : Type 0} (journal : D → List (N × ℕ)) (share : D → ℕ → List X) (opened : List (N × ℕ))
     (seats slots id : ℕ) (passes : List (PassView N X)) (ticket number n : ℕ) (found value : D)
     → Grows journal share number found value → 0 < times number passes

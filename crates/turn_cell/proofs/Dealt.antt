@@ -11,6 +11,7 @@ use Rattle.turn_cell.proofs.Numbers.{times-split, length-split}
 use Rattle.turn_cell.proofs.Tickets.{placed-set, placed-snoc}
 use Rattle.turn_cell.proofs.Seats.{dealt-again}
 
+-- the rule holds after a seat is split
 pub deals : {D N X : Type 0} (journal : D → List (N × ℕ)) (share : D → ℕ → List X) (opened : List (N × ℕ))
     (seats id : ℕ) (passes : List (PassView N X))
     → Splits (TakesTurns journal share opened seats) id (idle passes) (undealt (idle passes)) (dealt (idle passes))

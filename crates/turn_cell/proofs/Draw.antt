@@ -25,6 +25,7 @@ widened journal share seats served drawn value homes view fits = record {
   taken = fits.taken;
 }
 
+-- the rule holds after a seat draws a ticket
 pub draws : {D N X : Type 0} (journal : D → List (N × ℕ)) (share : D → ℕ → List X) (opened : List (N × ℕ))
     (seats slots id : ℕ) (passes : List (PassView N X)) → 0 < length passes
     → Allows (TakesTurns journal share opened seats) slots id (idle passes, []) 0 (λ n. (n + 1) % 2 ^ 64)

@@ -1,13 +1,15 @@
 -- Facts of each element of a list.
-use Rattle.std.proofs.Common.{◌≡◌, ℕ, zero, suc, List, [], ◌∷◌, ◌++◌, map, take, drop, length, Option, Some, None, IfSome, refl, arith}
+use Rattle.std.proofs.Common.{◌≡◌, ℕ, zero, suc, List, [], ◌∷◌, ◌++◌, map, take, drop, Option, Some, None, IfSome, refl}
 use Rattle.turn_cell.specs.Journals.{Every}
 
 module _ {X : Type 0} where
+  -- what holds of each element holds of each of the first
   pub every-take : (P : X → Type 0) (n : ℕ) (xs : List X) → Every P xs → Every P (take n xs)
   every-take P zero xs all = tt
   every-take P (suc n) [] all = tt
   every-take P (suc n) (x ∷ xs) all = (all.0, every-take P n xs all.1)
 
+  -- and of each of the others
   pub every-drop : (P : X → Type 0) (n : ℕ) (xs : List X) → Every P xs → Every P (drop n xs)
   every-drop P zero xs all = all
   every-drop P (suc n) [] all = tt
@@ -40,16 +42,14 @@ module _ {X : Type 0} where
   every-both P Q R (x ∷ xs) step all also =
       (step x all.0 also.0, every-both P Q R xs step all.1 also.1)
 
+  -- what follows of what there is holds of it
   pub if_some-weaker : (o : Option X) (P Q : X → Type 0) → IfSome o P
       → ((x : X) → o ≡ Some x → P x → Q x) → IfSome o Q
   if_some-weaker None P Q is step = tt
   if_some-weaker (Some x) P Q is step = step x refl is
 
+-- what holds of each image holds of each element's image
 pub every-map : {X Y : Type 0} (P : Y → Type 0) (f : X → Y) (xs : List X)
     → Every P (map f xs) → Every (λ x. P (f x)) xs
 every-map P f [] all = tt
 every-map P f (x ∷ xs) all = (all.0, every-map P f xs all.1)
-
-pub none-left : {X : Type 0} (xs : List X) → length xs ≡ 0 → xs ≡ []
-none-left [] none = refl
-none-left (x ∷ xs) none = absurd (omega (arith, none))

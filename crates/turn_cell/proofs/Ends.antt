@@ -11,6 +11,7 @@ use Rattle.turn_cell.proofs.Sums.{each-snoc, two-le-total}
 use Rattle.turn_cell.proofs.Numbers.{new_passes-once, new_passes-length, new_passes-numbers, new_passes-every}
 use Rattle.turn_cell.proofs.Tickets.{none-some}
 
+-- the rule holds of a table as it is made
 pub opens : {D N X : Type 0} (journal : D → List (N × ℕ)) (share : D → ℕ → List X) (seats : ℕ) (value : D)
     → seats ≤ 1024
     → TakesTurns journal share (journal value) seats

@@ -14,6 +14,7 @@ use Rattle.turn_cell.proofs.Numbers.{times-append}
 use Rattle.turn_cell.proofs.Tickets.{placed-set}
 use Rattle.turn_cell.proofs.Seats.{dealt-again}
 
+-- the rule holds after two seats are joined
 pub merges : {D N X : Type 0} (journal : D → List (N × ℕ)) (share : D → ℕ → List X) (opened : List (N × ℕ))
     (seats id other : ℕ) (passes more : List (PassView N X))
     → Joins (TakesTurns journal share opened seats) id (idle passes) other (idle more) (joined (idle passes) (idle more)) spent

@@ -7,6 +7,7 @@ use Rattle.turn_cell.specs.Journals.{Every}
 use Rattle.turn_cell.specs.Rule.{times, new_pass, new_passes, IsOneOf}
 
 module _ {N X : Type 0} where
+  -- how often a number stands among passes and others
   pub times-append : (number : ℕ) (xs ys : List (PassView N X))
       → times number (xs ++ ys) ≡ times number xs + times number ys
   times-append number [] ys = omega arith
@@ -16,6 +17,7 @@ module _ {N X : Type 0} where
       let sum : here + times number (xs ++ ys) ≡ (here + times number xs) + times number ys = omega arith in
       sum
 
+  -- how often it stands in the first one and in the others
   pub times-split : (number : ℕ) (passes : List (PassView N X))
       → times number (take 1 passes) + times number (drop 1 passes) ≡ times number passes
   times-split number [] = omega arith
@@ -24,11 +26,13 @@ module _ {N X : Type 0} where
       let sum : (here + 0) + times number xs ≡ here + times number xs = omega arith in
       sum
 
+  -- how many they are together
   pub length-split : (passes : List (PassView N X))
       → length (take 1 passes) + length (drop 1 passes) ≡ length passes
   length-split [] = omega arith
   length-split (x ∷ xs) = let sum : suc zero + length xs ≡ suc (length xs) = omega arith in sum
 
+  -- passes that keep their numbers have them as often
   pub times-map : (number : ℕ) (f : PassView N X → PassView N X)
       → ((pass : PassView N X) → (f pass).number ≡ pass.number)
       → (passes : List (PassView N X)) → times number (map f passes) ≡ times number passes
@@ -36,6 +40,7 @@ module _ {N X : Type 0} where
   times-map number f same (x ∷ xs) =
       rw (same x) (ap (λ n. (if number == x.number then 1 else 0) + n) (times-map number f same xs))
 
+  -- a pass of this number is one more
   pub times-here : (number : ℕ) (x : PassView N X) (xs : List (PassView N X)) → number ≡ x.number
       → times number (x ∷ xs) ≡ suc (times number xs)
   times-here number x xs is =
@@ -44,6 +49,7 @@ module _ {N X : Type 0} where
       let sum : here + times number xs ≡ suc (times number xs) = omega arith in
       sum
 
+  -- one of another number is none
   pub times-other : (number : ℕ) (x : PassView N X) (xs : List (PassView N X)) → number ≢ x.number
       → times number (x ∷ xs) ≡ times number xs
   times-other number x xs other =
@@ -91,6 +97,7 @@ module _ {N X : Type 0} (seats : ℕ) (journal : List (N × ℕ)) (share : ℕ �
       times-other number (new first) (from (suc first) n) (omega arith)
       ∙ new_passes-above number (suc first) n (omega arith)
 
+  -- each number is given once
   pub new_passes-once : (number first n : ℕ) → times number (from first n) ≤ 1
   new_passes-once number first zero = omega arith
   new_passes-once number first (suc n) =
@@ -104,16 +111,19 @@ module _ {N X : Type 0} (seats : ℕ) (journal : List (N × ℕ)) (share : ℕ �
       rw rest (new_passes-once number (suc first) n))
       (cases_eq number first)
 
+  -- there are as many as were asked for
   pub new_passes-length : (first n : ℕ) → length (from first n) ≡ n
   new_passes-length first zero = refl
   new_passes-length first (suc n) = ap suc (new_passes-length (suc first) n)
 
+  -- their numbers are those of the cell
   pub new_passes-numbers : (first n : ℕ) → 1 ≤ first → first + n ≤ suc seats
       → Every (IsOneOf seats) (from first n)
   new_passes-numbers first zero low high = tt
   new_passes-numbers first (suc n) low high =
       (((low, omega arith), refl), new_passes-numbers (suc first) n (omega arith) (omega arith))
 
+  -- what holds of each number holds of each of them
   pub new_passes-every : (P : PassView N X → Type 0) → ((number : ℕ) → P (new number))
       → (first n : ℕ) → Every P (from first n)
   new_passes-every P each first zero = tt

@@ -15,6 +15,7 @@ new_passes-next journal share place seats low =
     ap (new_passes seats journal share (place + 1)) count
     ∙ ap (λ n. new_pass seats journal share (place + 1) ∷ new_passes seats journal share n (seats - (place + 1))) next
 
+-- one more at the end
 pub AreNew-snoc : {D N X : Type 0} {g : _} (cell : TableId) (seats : ℕ) (journal : List (N × ℕ)) (share : ℕ → List X) (first number : ℕ)
     (passes : List (Pass D N X g)) (pass : Pass D N X g) → AreNew cell seats journal share first passes → first + length passes ≡ number
     → (cell_of pass ≡ cell) × (view_of pass ≡ new_pass seats journal share number)

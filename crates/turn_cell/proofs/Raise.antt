@@ -11,6 +11,7 @@ use Rattle.turn_cell.proofs.Sums.{each-set}
 use Rattle.turn_cell.proofs.Each.{if_some-weaker}
 use Rattle.turn_cell.proofs.Tickets.{dealt-set, apart-set, others_wait, others_rest}
 
+-- the rule holds after a seat ends its turn
 pub raises : {D N X : Type 0} (journal : D → List (N × ℕ)) (share : D → ℕ → List X) (opened : List (N × ℕ))
     (seats slots id : ℕ) (passes : List (PassView N X)) (ticket : ℕ) (value : D)
     → Allows (TakesTurns journal share opened seats) slots id (in_turn passes ticket value, (0, Some value) ∷ []) 1

@@ -94,6 +94,7 @@ module _ {D N X : Type 0} (journal : D → List (N × ℕ)) (share : D → ℕ �
         )),
       )
 
+  -- the rule holds after a seat reads which ticket is served, and gets its turn if it is its own
   pub serves : (slots id : ℕ) (passes : List (PassView N X)) (ticket : ℕ)
       → Allows Rule slots id (waiting passes ticket, []) 1 (λ n. n)
       (Serves journal share (step slots 1 0 0 none) (waiting passes ticket, []))

@@ -36,6 +36,7 @@ module _ {D N X : Type 0} (journal : D → List (N × ℕ)) (share : D → ℕ �
     all.1,
   )
 
+-- the rule holds after a seat reads the length of the journal
 pub meets : {D N X : Type 0} (journal : D → List (N × ℕ)) (share : D → ℕ → List X) (opened : List (N × ℕ))
     (seats slots id : ℕ) (passes : List (PassView N X))
     → Allows (TakesTurns journal share opened seats) slots id (idle passes, []) 2 (λ n. n)

@@ -20,6 +20,7 @@ module _ {V : Type 0} (f : V → ℕ) where
   total-snoc [] new = omega arith
   total-snoc (view ∷ views) new = let rest = total-snoc views new in omega arith
 
+  -- one view counts for no more than all
   pub le-total : (views : List V) (place : ℕ) (view : V) → get_elem? views place ≡ some view
       → f view ≤ total f views
   le-total [] place view at = absurd (some-ne-none view (sym at))
@@ -41,6 +42,7 @@ module _ {V : Type 0} (f : V → ℕ) where
   two-le-total (x ∷ xs) (suc i) (suc j) v w apart at_i at_j =
       let rest = two-le-total xs i j v w (λ same. apart (ap suc same)) at_i at_j in omega arith
 
+  -- where each counts for nothing, all do
   pub total-none : (views : List V)
       → ((place : ℕ) (view : V) → get_elem? views place ≡ some view → f view ≡ 0)
       → total f views ≡ 0
@@ -49,6 +51,7 @@ module _ {V : Type 0} (f : V → ℕ) where
       let first = none zero view refl in
       let rest = total-none views (λ place v at. none (suc place) v at) in omega arith
 
+-- where each counts for no more than for another, all do
 pub total-le : {V : Type 0} (f g : V → ℕ) (views : List V)
     → ((place : ℕ) (view : V) → get_elem? views place ≡ some view → f view ≤ g view)
     → total f views ≤ total g views
@@ -78,6 +81,7 @@ module _ {V : Type 0} (F : V → Type 0) where
       (λ (x : new ≡ view). subst F x here)
       (at_snoc views new view k is)
 
+-- a place at which a view stands is one of the list
 pub place-low : {V : Type 0} (views : List V) (place : ℕ) (view : V)
     → get_elem? views place ≡ some view → place < length views
 place-low [] place view at = absurd (some-ne-none view (sym at))

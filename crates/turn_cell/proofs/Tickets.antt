@@ -17,10 +17,12 @@ tickets_at-here : (ticket : ℕ) (held : Option ℕ) → held ≡ Some ticket �
 tickets_at-here ticket held is =
     rw is (let n : ℕ = if ticket == ticket then 1 else 0 in let one : n ≡ 1 = grind (arith, nat_tests) in one)
 
+-- another ticket is not this one
 pub tickets_at-other : (this ticket : ℕ) → this ≢ ticket → tickets_at this (Some ticket) ≡ 0
 tickets_at-other this ticket other =
     let n : ℕ = if this == ticket then 1 else 0 in let none : n ≡ 0 = grind (arith, nat_tests) in none
 
+-- a view has a ticket once at most
 pub tickets_at-most : (this ticket : ℕ) → tickets_at this (Some ticket) ≤ 1
 tickets_at-most this ticket =
     let n : ℕ = if this == ticket then 1 else 0 in let one : n ≤ 1 = grind (arith, nat_tests) in one
@@ -37,6 +39,7 @@ tickets-low : (held : Option ℕ) (served drawn passes : ℕ)
 tickets-low None served drawn passes fits = omega arith
 tickets-low (Some ticket) served drawn passes fits = let some_pass : 0 < passes = fits.2 in omega arith
 
+-- nothing is not something
 pub none-some : {D : Type 0} (value : D) → None ≡ Some value → ⊥
 none-some value is = cc
 
@@ -85,6 +88,7 @@ module _ {D N X : Type 0} (journal : D → List (N × ℕ)) (share : D → ℕ �
       none-some value (sym rests ∙ (ap (λ (view : SeatView D N X). view.taken) is ∙ out.1.3)) in
       inr (out.0, (out.1.0, out.1.1, set_else views place out.1.0 new other ∙ out.1.2, out.1.3))
 
+  -- the value stays where it is as a view is added
   pub placed-snoc : (new : SeatView D N X) → IsPlaced journal share value homes views
       → IsPlaced journal share value homes (views ++ new ∷ [])
   placed-snoc new (inl home) = inl home

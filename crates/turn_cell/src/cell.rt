@@ -5,6 +5,7 @@ use crate::table::CellTable;
 use crate::waiting::WaitingRoom;
 use std::alloc::AllocError;
 
+/// Memory ran out.
 pub type NoMemory = AllocError;
 
 /// A value that passes take turns with, in any thread. At any moment at most one of them has it.

@@ -15,8 +15,12 @@ use std::hint;
 use std::snapshot::Snapshot;
 use std::sync::Wait;
 
-/// How often a pass whose turn is next looks for it before it sleeps.
-const SPINS: u32 = 128;
+/// How often a pass whose turn is near looks for it before it sleeps.
+const SPINS: u32 = 2_000;
+
+/// How many turns come before a turn that is near, at most: more of them than there are processors
+/// only keep a processor from those whose turn comes first.
+const NEAR: u64 = 4;
 
 impl<D: Journalled> TurnCell<D> {
     /// Waits for the pass's turn. It has the value as the turn before it left it.
@@ -94,8 +98,8 @@ fn try_take<D: Journalled>(words: &CellWords<D>, seat: &mut CellSeat<D>, ticket:
     Some(value)
 }
 
-/// Waits for a moment: by looking again where the ticket is the next one, or asleep, where it is
-/// not, or after SPINS looks.
+/// Waits for a moment: by looking again where the turn is near, or asleep, where it is not, or after
+/// SPINS looks.
 ///
 /// What is given and what is answered count the looks since it slept last.
 fn wait_a_little<D: Journalled, R: Wait>(
@@ -109,7 +113,7 @@ fn wait_a_little<D: Journalled, R: Wait>(
     ensures { result ≤ SPINS }
 {
     let before = ticket.wrapping_sub(words.peek(SERVED));
-    if spins < SPINS && before <= 1 {
+    if spins < SPINS && before <= NEAR {
         hint::spin_loop();
         return spins + 1;
     }

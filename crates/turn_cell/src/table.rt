@@ -66,6 +66,7 @@ impl<D: Journalled> TableRule<Option<D>, SeatView<D, D::Note, D::Item>, Opening<
         dealer (D.journal opening.value.value) (D.share opening.value.value) opening.seats };
 }
 
+/// The table in which a value, its seats and the turn lie.
 pub type CellTable<D> = Table<
     Option<D>,
     SeatView<D, <D as Journalled>::Note, <D as Journalled>::Item>,

@@ -4,8 +4,8 @@
 //! in turn they have the places one after another. A pass says at its place that it sleeps there,
 //! then looks once more which ticket is served, and sleeps while the place says so. What ends a
 //! turn serves the next ticket, then looks at its place, and wakes the pass there where it sleeps.
-//! So one of the two sees what the other has done. Of all this nothing is proved: that a pass sleeps
-//! for ever would break no contract.
+//! So one of the two sees what the other has done. Of all this nothing is proved: that a pass
+//! sleeps for ever would break no contract.
 use std::alloc::{AllocError, Global};
 use std::sync::Wait;
 use std::sync::atomic::{AtomicU64, Ordering};

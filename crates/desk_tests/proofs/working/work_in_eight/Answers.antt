@@ -4,7 +4,7 @@ use denote.Param.Send.{param_send, arg_send}
 use mir.Syntax.{named}
 use Rattle.std.specs.Prelude.{codes}
 use Rattle.desk_tests.proofs.Given.{two_pairs_given_send, four_worked_send}
-use Rattle.desk_tests.proofs.Noted.{noted, noted_send}
+use Rattle.desk_tests.proofs.HandedBack.{noted, noted_send}
 use Rattle.desk_tests.proofs.working.work_in_eight.Goals as goal
 use Rattle.desk_tests.proofs.working.work_in_eight.Lts as lts
 

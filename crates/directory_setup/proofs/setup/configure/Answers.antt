@@ -1,4 +1,5 @@
 use Rattle.std.proofs.Common.{inl, inr, refl, sym}
+use Rattle.directory_setup.proofs.ReadTexts.{text_read}
 use Rattle.directory_setup.proofs.setup.configure.Goals as goal
 
 pub returns-in-Failed-clause-failed : goal.returns-in-Failed-clause-failed
@@ -28,5 +29,14 @@ pub returns-clause-configures : goal.returns-clause-configures
 returns-clause-configures g c = (
   c.in-Text.text,
   rw c.in-Text.is at c.in_ok-found.ensures.text,
-  inr (c.in-Err.fault, rw c.as_slice-bytes.ensures at c.in-Err.ensures.fault, refl),
+  inr (c.in-Err.fault, c.in_ok-refusal-in-Err.ensures.0, rw c.as_slice-bytes.ensures at c.in-Err.ensures.fault, c.in_ok-refusal-in-Err.ensures.1),
 )
+
+pub returns-in-Some-clause-sound : goal.returns-in-Some-clause-sound
+returns-in-Some-clause-sound g c = λ _. text_read _ _ c.in-Text.text c.in-Text.is c.in_ok-found.ensures.sound
+
+pub returns-in-Ok-clause-sound : goal.returns-in-Ok-clause-sound
+returns-in-Ok-clause-sound g c = λ _. text_read _ _ c.in-Text.text c.in-Text.is c.in_ok-found.ensures.sound
+
+pub returns-clause-sound : goal.returns-clause-sound
+returns-clause-sound g c = λ _. text_read _ _ c.in-Text.text c.in-Text.is c.in_ok-found.ensures.sound

@@ -1,5 +1,5 @@
-use Rattle.std.proofs.Common.{refl}
-use Rattle.directory_setup.proofs.Setups.{rose_later}
+use Rattle.std.proofs.Common.{refl, ◌∙◌}
+use Rattle.sync_io.proofs.Sides.{rose_later}
 use Rattle.directory_setup.proofs.setup.history_of.Goals as goal
 
 pub returns-in_default-clause-failed : goal.returns-in_default-clause-failed
@@ -10,3 +10,6 @@ returns-in_default-next_word-clause-failed g c = λ _. rose_later _ _ _ c.in-Som
 
 pub returns-clause-words : goal.returns-clause-words
 returns-clause-words g c = (c.in-Some.first, c.in-Some-next_word.second, rw (c.from.ensures, c.from-2.ensures) refl)
+
+pub returns-clause-sound : goal.returns-clause-sound
+returns-clause-sound g c = λ _. c.in-Some-next_word.ensures.sound refl ∙ c.in-Some.ensures.sound refl

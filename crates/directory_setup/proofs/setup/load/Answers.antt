@@ -1,4 +1,5 @@
 use Rattle.std.proofs.Common.{inl, inr, refl, sym}
+use Rattle.directory_setup.proofs.ReadTexts.{text_read}
 use Rattle.directory_setup.proofs.setup.load.Goals as goal
 
 pub returns-in_default-clause-loads : goal.returns-in_default-clause-loads
@@ -36,3 +37,12 @@ returns-clause-loads g c =
       rw (c.in-Text.is, c.as_str.ensures) at c.in_ok-found.ensures.text,
       inr (c.in-Refused.line, c.in-Refused.cause, _, rw (c.in-Refused.is, c.as_slice-bytes.ensures) at c.in_ok-filling.ensures.fills, refl),
     )
+
+pub returns-in-Some-too_long-clause-sound : goal.returns-in-Some-too_long-clause-sound
+returns-in-Some-too_long-clause-sound g c = λ _. text_read _ _ c.in-Text.text c.in-Text.is c.in_ok-found.ensures.sound
+
+pub returns-in-Filled-clause-sound : goal.returns-in-Filled-clause-sound
+returns-in-Filled-clause-sound g c = λ _. text_read _ _ c.in-Text.text c.in-Text.is c.in_ok-found.ensures.sound
+
+pub returns-clause-sound : goal.returns-clause-sound
+returns-clause-sound g c = λ _. text_read _ _ c.in-Text.text c.in-Text.is c.in_ok-found.ensures.sound

@@ -1,3 +1,4 @@
+use Rattle.std.proofs.Common.{◌∙◌}
 use Rattle.std.proofs.lemmas.Result.{IfOk-weaker}
 use Rattle.directory_setup.proofs.ReadTexts.{file_read, given_back}
 use Rattle.directory_setup.proofs.text_file.read_file.Goals as goal
@@ -13,3 +14,9 @@ returns-in-Ok-clause-failed g c =
     IfOk-weaker c.read_text-found.result _ _
     (λ text rises is. given_back _ _ _ _ _ (c.in-Ok.ensures.faultless (λ e. let never : ⊥ = cc in never)) c.in-Ok.ensures.sound (rises is) c.give_back.ensures.faulty)
     c.read_text-found.ensures.failed
+
+pub returns-in-Ok-clause-sound : goal.returns-in-Ok-clause-sound
+returns-in-Ok-clause-sound g c =
+    IfOk-weaker c.read_text-found.result _ _
+    (λ text same other. c.give_back.ensures.sound (same other ∙ c.in-Ok.ensures.sound) ∙ c.in-Ok.ensures.faultless (λ e. let never : ⊥ = cc in never))
+    c.read_text-found.ensures.sound

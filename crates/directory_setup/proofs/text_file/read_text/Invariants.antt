@@ -1,4 +1,4 @@
-use Rattle.std.proofs.Common.{◌≡◌, ◌≤◌, length}
+use Rattle.std.proofs.Common.{◌≡◌, length}
 use Rattle.std.specs.Io.KnownBytes.{Consumes}
 use Rattle.directory_setup.proofs.text_file.read_text.Given as goal
 
@@ -6,6 +6,6 @@ use Rattle.directory_setup.proofs.text_file.read_text.Given as goal
 abbrev pub invariant-loop : goal.invariant-loop
 invariant-loop g l = record {
   left : Consumes (g.S.Source.bytes_left l.fn.file) (g.S.Source.bytes_left l.file) l.text.items;
-  later : g.S.Source.read_fault_count l.fn.file ≤ g.S.Source.read_fault_count l.file;
+  sound : g.S.Source.read_fault_count l.file ≡ g.S.Source.read_fault_count l.fn.file;
   size : length l.buffer ≡ 4096;
 }

@@ -10,7 +10,7 @@ pub loop-init : goal.loop-init
 loop-init g c = record {
   k = 0;
   keeps = keeps-none (seen_by g.N.Link.Source.bytes_left g.N.Link.Source.bytes_read g.N.Link.Sink.bytes_held g.N.Link.Source.read_fault_count g.N.Link.Sink.write_fault_count)
-      c.args.host.now.access.now (directory_id c.args.host.now.directory.now) _ _ c.requires.order;
+      c.args.server.now.access.now (directory_id c.args.server.now.directory.now) _ _ c.requires.order;
   number = λ some. (refl, omega arith);
   faults = refl;
 }
@@ -22,7 +22,7 @@ loop-preserved g c =
     record {
       k = was.k + one.count;
       keeps = keeps-then (seen_by g.N.Link.Source.bytes_left g.N.Link.Source.bytes_read g.N.Link.Sink.bytes_held g.N.Link.Source.read_fault_count g.N.Link.Sink.write_fault_count)
-          c.args.host.now.access.now (directory_id c.args.host.now.directory.now) was.k one.count _ _ _ _ _ _ was.keeps one.keeps;
+          c.args.server.now.access.now (directory_id c.args.server.now.directory.now) was.k one.count _ _ _ _ _ _ was.keeps one.keeps;
       number = λ some. let first = was.number some in
           elim c.else-connections-ne0.branch [
             | else-connections-ne0-via-then-connections-ne0+else-number-connections w ↦
@@ -40,7 +40,7 @@ returns-in-Err-clause-accounts g c =
       count = was.k + one.count;
       known = tt;
       keeps = keeps-then (seen_by g.N.Link.Source.bytes_left g.N.Link.Source.bytes_read g.N.Link.Sink.bytes_held g.N.Link.Source.read_fault_count g.N.Link.Sink.write_fault_count)
-          c.args.host.now.access.now (directory_id c.args.host.now.directory.now) was.k one.count _ _ _ _ _ _ was.keeps one.keeps;
+          c.args.server.now.access.now (directory_id c.args.server.now.directory.now) was.k one.count _ _ _ _ _ _ was.keeps one.keeps;
     }
 
 pub returns-in-Err-clause-faults : goal.returns-in-Err-clause-faults

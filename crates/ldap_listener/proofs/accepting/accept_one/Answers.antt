@@ -37,8 +37,8 @@ returns-in-Err-clause-faults g c =
 pub returns-in-Ok-start-clause-accounts : goal.returns-in-Ok-start-clause-accounts
 returns-in-Ok-start-clause-accounts g c =
     let v = seen_by g.N.Link.Source.bytes_left g.N.Link.Source.bytes_read g.N.Link.Sink.bytes_held g.N.Link.Source.read_fault_count g.N.Link.Sink.write_fault_count in
-    let access = c.args.host.now.access.now in
-    let cell = directory_id c.args.host.now.directory.now in
+    let access = c.args.server.now.access.now in
+    let cell = directory_id c.args.server.now.directory.now in
     let seat = c.wait_for_seat-place.ensures in
     let place = c.wait_for_seat-place.result in
     let there = there-free c.wait_for_seat-place.new.seats place _ _ _ _ seat.place c.replace.ensures.value (ap seat_of c.in-Free.is) in
@@ -62,8 +62,8 @@ returns-in-Ok-start-clause-faults g c =
 pub returns-in-Err-start-clause-accounts : goal.returns-in-Err-start-clause-accounts
 returns-in-Err-start-clause-accounts g c =
     let v = seen_by g.N.Link.Source.bytes_left g.N.Link.Source.bytes_read g.N.Link.Sink.bytes_held g.N.Link.Source.read_fault_count g.N.Link.Sink.write_fault_count in
-    let access = c.args.host.now.access.now in
-    let cell = directory_id c.args.host.now.directory.now in
+    let access = c.args.server.now.access.now in
+    let cell = directory_id c.args.server.now.directory.now in
     let seat = c.wait_for_seat-place.ensures in
     let place = c.wait_for_seat-place.result in
     let there = there-free c.wait_for_seat-place.new.seats place _ _ _ _ seat.place c.replace.ensures.value (ap seat_of c.in-Free.is) in

@@ -9,6 +9,6 @@ abbrev pub invariant-loop-place : goal.invariant-loop-place
 invariant-loop-place g l = record {
   keeps :
       KeepsAccounts (seen_by g.N.Link.Source.bytes_left g.N.Link.Source.bytes_read g.N.Link.Sink.bytes_held g.N.Link.Source.read_fault_count g.N.Link.Sink.write_fault_count)
-      l.host.access.now (directory_id l.host.directory.now) 0 (g.N.Net.served l.fn.net) (map seat_of l.fn.seats) (g.N.Net.served l.net) (map seat_of l.seats);
+      l.server.access.now (directory_id l.server.directory.now) 0 (g.N.Net.served l.fn.net) (map seat_of l.fn.seats) (g.N.Net.served l.net) (map seat_of l.seats);
   faults : g.N.Net.net_fault_count l.net ≡ g.N.Net.net_fault_count l.fn.net;
 }

@@ -1,4 +1,4 @@
-use Rattle.std.proofs.Common.{◌≡◌, ap, arith, get_or, length, map, refl, set, sym, ◌∙◌}
+use Rattle.std.proofs.Common.{◌≡◌, ap, arith, get_or, map, refl, set, sym, ◌∙◌}
 use Rattle.std.proofs.lemmas.List.{get_or_default, length-map, set-get_or, set-set}
 use Rattle.std.proofs.Math.ListN.{get_or-map}
 use Rattle.atomic_table.specs.Seated.{TableId}
@@ -31,7 +31,7 @@ returns-in-Busy-clause-accounts g c =
     let back = c.join-pass.ensures in
     rw (c.release.ensures.served, twice c.args.seats.now c.args.place c.replace.new.dest (Free c.join-pass.result.pass))
     (keeps-freed (seen_by g.N.Link.Source.bytes_left g.N.Link.Source.bytes_read g.N.Link.Sink.bytes_held g.N.Link.Source.read_fault_count g.N.Link.Sink.write_fault_count)
-    c.args.host.now.access.now (directory_id c.args.host.now.directory.now) _ _ c.args.place _ _ _ _ _ _ _ there c.requires.order back.0 back.1)
+    c.args.server.now.access.now (directory_id c.args.server.now.directory.now) _ _ c.args.place _ _ _ _ _ _ _ there c.requires.order back.0 back.1)
 
 pub returns-in-Busy-clause-free : goal.returns-in-Busy-clause-free
 returns-in-Busy-clause-free g c =
@@ -49,7 +49,7 @@ returns-in_default g c =
     let same : map seat_of (set (set seats i c.replace.new.dest) i c.replace.result) ≡ map seat_of seats =
     ap (map seat_of) (set-set seats i c.replace.new.dest c.replace.result ∙ ap (set seats i) c.replace.ensures.value ∙ set-get_or seats i _) in
     record {
-      accounts = rw same (keeps-none (seen_by g.N.Link.Source.bytes_left g.N.Link.Source.bytes_read g.N.Link.Sink.bytes_held g.N.Link.Source.read_fault_count g.N.Link.Sink.write_fault_count) c.args.host.now.access.now (directory_id c.args.host.now.directory.now) _ _ c.requires.order);
+      accounts = rw same (keeps-none (seen_by g.N.Link.Source.bytes_left g.N.Link.Source.bytes_read g.N.Link.Sink.bytes_held g.N.Link.Source.read_fault_count g.N.Link.Sink.write_fault_count) c.args.server.now.access.now (directory_id c.args.server.now.directory.now) _ _ c.requires.order);
       free = (
           let one = get_or-map seat_of seats i Vacant in
           let read : get_or seats i Vacant ≡ c.replace.result = get_or_default seats i Vacant _ c.requires.place ∙ sym c.replace.ensures.value in

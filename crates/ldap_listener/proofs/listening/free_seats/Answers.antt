@@ -1,8 +1,9 @@
 use Rattle.std.proofs.Common.{◌≡◌, [], ◌∷◌, ap, append-nil, arith, length, map, refl, sym, ◌∙◌}
+use Rattle.std.proofs.lemmas.List.{nil_from_length}
 use Rattle.std.specs.Vec.Iter.{into_iter_items}
 use Rattle.ldap_listener.specs.SeatsOfCode.{seat_of, seat_of_pass}
 use Rattle.ldap_listener.specs.declared.seat.Seat.TheVariants.{Free}
-use Rattle.ldap_listener.proofs.Rows.{moved, nothing_left}
+use Rattle.ldap_listener.proofs.Rows.{moved}
 use Rattle.ldap_listener.proofs.listening.free_seats.Goals as goal
 
 pub loop-pass-init : goal.loop-pass-init
@@ -35,5 +36,5 @@ pub returns : goal.returns
 returns g c =
     let at = c.loop-pass in
     let none = c.in-None.ensures.steps in
-    let empty : into_iter_items at.pass-iterator ≡ [] = nothing_left _ (sym at.invariant.left ∙ none.0) in
+    let empty : into_iter_items at.pass-iterator ≡ [] = nil_from_length _ (sym at.invariant.left ∙ none.0) in
     sym (append-nil (map seat_of at.seats.items)) ∙ rw empty at at.invariant.done

@@ -10,5 +10,6 @@ invariant-loop-seat g l = record {
   free : AllFree (map seat_of (into_iter_items l.seat-iterator));
   done : map seat_of_pass l.passes.items ++ map seat_of (into_iter_items l.seat-iterator) ≡ map seat_of l.fn.seats.items;
   room : vec_len l.passes + length (into_iter_items l.seat-iterator) ≤ vec_capacity l.passes;
+  capacity : vec_capacity l.passes ≡ vec_capacity l.fn.room;
   left : into_iter_len l.seat-iterator ≡ length (into_iter_items l.seat-iterator);
 }

@@ -1,4 +1,4 @@
-use Rattle.std.proofs.Common.{arith, length, rules, sym, ◌∙◌}
+use Rattle.std.proofs.Common.{arith, rules, sym, ◌∙◌}
 use Rattle.std.proofs.lemmas.List.{length-map}
 use Rattle.ldap_listener.specs.SeatsOfCode.{seat_of}
 use Rattle.ldap_listener.specs.Sessions.{seen_by}

@@ -1,7 +1,8 @@
 use Rattle.std.proofs.Common.{◌≡◌, ◌++◌, ◌∙◌, ◌∷◌, List, [], codes, map, append_assoc, sym, ap, take_all}
 use Rattle.csn_cookie.specs.Csn.{csn_text}
 use Rattle.schema_rules.specs.declared.raw.RawAttribute.{RawAttribute}
-use Rattle.sync_wire.specs.Sending.{operational_attributes_of, raw_of, single, uuid_text}
+use Rattle.schema_rules.specs.Attributes.{raw_of}
+use Rattle.sync_wire.specs.Sending.{operational_attributes_of, single, uuid_text}
 use Rattle.ldap_server.specs.Selecting.{sent_of}
 use Rattle.ldap_server.proofs.Selections.{sent_of-append, sent_of-next}
 use Rattle.ldap_server.proofs.selecting.selected_of.Goals as goal

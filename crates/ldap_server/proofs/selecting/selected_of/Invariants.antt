@@ -1,5 +1,5 @@
 use Rattle.std.proofs.Common.{◌≡◌, map, take}
-use Rattle.sync_wire.specs.Sending.{raw_of}
+use Rattle.schema_rules.specs.Attributes.{raw_of}
 use Rattle.ldap_server.specs.Selecting.{sent_of}
 use Rattle.ldap_server.proofs.selecting.selected_of.Given as goal
 

@@ -1,6 +1,7 @@
 use Rattle.std.proofs.Common.{Some, ap, arith, refl, sym, ◌∙◌}
 use Rattle.ldap_server.proofs.Events.{none_by, not_read_fault, not_write_fault}
-use Rattle.ldap_server.proofs.Linking.{linked_none, rose_later, sink_same, source_same}
+use Rattle.sync_io.proofs.Sides.{rose_later, sink_same, source_same}
+use Rattle.ldap_server.proofs.Linking.{linked_none}
 use Rattle.ldap_server.proofs.Rounds.{over, round, unread, unwritten}
 use Rattle.ldap_server.proofs.serving.serve_connection.Goals as goal
 

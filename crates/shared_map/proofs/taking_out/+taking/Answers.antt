@@ -1,8 +1,9 @@
 -- A pair that is taken out below a node stands before or after the pair of that node.
-use Rattle.std.proofs.Common.{◌∷◌, ◌++◌, sym, ap, ◌∙◌, Less, Equal, Greater}
-use Rattle.std.proofs.lemmas.Result.{on_ok_weaker}
-use Rattle.shared_map.specs.Nodes.{pair_of, pairs}
+use Rattle.std.proofs.Common.{◌∷◌, ◌++◌, length, sym, ap, ◌∙◌, Less, Equal, Greater}
+use Rattle.std.proofs.lemmas.Result.{IfOk-weaker, on_ok_weaker}
+use Rattle.shared_map.specs.Nodes.{count_with, pair_of, pairs}
 use Rattle.shared_map.proofs.Around.{remove_entry-around}
+use Rattle.shared_map.proofs.Counts.{count-lower, count-higher}
 use Rattle.shared_map.proofs.Keys.{ascends_before, ascends_after}
 use Rattle.shared_map.proofs.taking_out.+taking.Goals as goal
 
@@ -37,3 +38,21 @@ take_below-returns-in-Greater-clause-ok g t c = λ ascends.
     (pair_of node.pair) (pairs node.higher) ascends Greater is))
     ((rw c.replace-higher.ensures.value at c.take_from-higher.ensures.ok)
     (ascends_after g.K.Ord.cmp (pairs node.lower) (pair_of node.pair) (pairs node.higher) ascends))
+
+pub take_below-returns-in-Less-clause-count : goal.take_below-returns-in-Less-clause-count
+take_below-returns-in-Less-clause-count g t c =
+    let node = c.args.node.now in
+    IfOk-weaker c.take_from-lower.result.1 _ _
+    (λ was_there count. count-lower was_there (pairs c.take_from-lower.result.0) (pairs node.lower)
+    count (pair_of node.pair) (pairs node.higher)
+    ∙ ap (λ es. count_with was_there (length es)) (sym c.set_lower.ensures))
+    (rw c.replace-lower.ensures.value at c.take_from-lower.ensures.count)
+
+pub take_below-returns-in-Greater-clause-count : goal.take_below-returns-in-Greater-clause-count
+take_below-returns-in-Greater-clause-count g t c =
+    let node = c.args.node.now in
+    IfOk-weaker c.take_from-higher.result.1 _ _
+    (λ was_there count. count-higher was_there (pairs c.take_from-higher.result.0)
+    (pairs node.higher) count (pair_of node.pair) (pairs node.lower)
+    ∙ ap (λ es. count_with was_there (length es)) (sym c.set_higher.ensures))
+    (rw c.replace-higher.ensures.value at c.take_from-higher.ensures.count)

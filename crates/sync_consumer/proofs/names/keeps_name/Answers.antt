@@ -4,7 +4,8 @@ use Rattle.std.proofs.lemmas.Bool.{false≢true}
 use Rattle.entry_tree.specs.State.{entry_at}
 use Rattle.entry_tree.specs.declared.entry.Entry.{Entry}
 use Rattle.sync_consumer.specs.declared.stage.StagedChange.{StagedChange}
-use Rattle.sync_consumer.specs.Holding.{keeps_name, IsPathed}
+use Rattle.entry_tree.specs.NameIndex.{HasPathKey}
+use Rattle.sync_consumer.specs.Holding.{keeps_name}
 use Rattle.sync_consumer.specs.Staging.{change_of}
 use Rattle.sync_consumer.proofs.names.keeps_name.Goals as goal
 
@@ -15,7 +16,7 @@ none_kept (Some e) = refl
 pub returns-in-AddOrModify : goal.returns-in-AddOrModify
 returns-in-AddOrModify c = record {
   value = c.has_name_of.ensures.value ∙ sym (ap (λ (s : StagedChange). keeps_name (entry_at c.args.held.now (change_of s).0) (change_of s).1) c.in-AddOrModify.is);
-  pathed = λ kept. subst (λ (s : StagedChange). IsPathed (change_of s).1) (sym c.in-AddOrModify.is) c.has_name_of.ensures.pathed;
+  pathed = λ kept. subst (λ (s : StagedChange). HasPathKey (change_of s).1) (sym c.in-AddOrModify.is) c.has_name_of.ensures.pathed;
 }
 
 pub returns-in-Delete : goal.returns-in-Delete

@@ -1,7 +1,8 @@
 -- The name of one change more is noted.
 use Rattle.std.proofs.Common.{◌≡◌, ◌-◌, true, drop, sym, subst, arith}
 use Rattle.sync_model.specs.Copy.{Stage}
-use Rattle.sync_consumer.specs.Holding.{IsPathed, NotesAll}
+use Rattle.entry_tree.specs.NameIndex.{HasPathKey}
+use Rattle.sync_consumer.specs.Holding.{NotesAll}
 use Rattle.sync_consumer.specs.Staging.{changes_in, entry_staged}
 use Rattle.sync_consumer.proofs.Applying.{notes_from, pathed_from}
 use Rattle.sync_consumer.proofs.Effecting.{none_from}
@@ -12,7 +13,7 @@ pub loop-left-init : goal.loop-left-init
 loop-left-init c = record {
   within = omega arith;
   noted = subst (λ (s : Stage). NotesAll c.args.held.now c.args.names.now c.args.names.now s true) (sym (none_from c.args.changes.now)) (notes_nothing c.args.held.now c.args.names.now true);
-  pathed = λ uuid. subst (λ (s : Stage). IsPathed (entry_staged s uuid)) (sym (none_from c.args.changes.now)) tt;
+  pathed = λ uuid. subst (λ (s : Stage). HasPathKey (entry_staged s uuid)) (sym (none_from c.args.changes.now)) tt;
 }
 
 pub loop-left-preserved : goal.loop-left-preserved

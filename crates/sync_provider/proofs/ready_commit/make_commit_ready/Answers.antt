@@ -2,6 +2,7 @@
 use Rattle.std.proofs.Common.{rules, ◌∙◌, ap, sym, subst, List, ℕ}
 use Rattle.csn_cookie.specs.Cookie.{cookie_text}
 use Rattle.entry_tree.specs.declared.entry.Entry.{Entry}
+use Rattle.entry_tree.specs.declared.op.Op.TheVariants.{Commit}
 use Rattle.directory_writes.specs.Commits.{refusal_beside, IsCommitPreview, Rejects}
 use Rattle.directory_writes.specs.Directory.{DirectoryState, cookie_at}
 use Rattle.directory_writes.specs.Standing.{StandingState, standing_after}
@@ -30,7 +31,7 @@ returns-clause-planned c =
     (subst (IsCommitPreview s c.list-puts.result.now c.list-drops.result.now c.args.now) (sym c.in_ok-ready.ensures.preview) c.in_ok-preview.ensures.planned))
 
 pub returns-clause-after : goal.returns-clause-after
-returns-clause-after c = c.in_ok-ready.ensures.after ∙ ap (standing_after c.args.standing.now) (sym c.in_ok-ready.ensures.preview)
+returns-clause-after c = c.in_ok-ready.ensures.after ∙ ap (standing_after c.args.standing.now (Commit c.args.staged.puts c.args.staged.drops)) (sym c.in_ok-ready.ensures.preview)
 
 pub returns-clause-staged : goal.returns-clause-staged
 returns-clause-staged c =

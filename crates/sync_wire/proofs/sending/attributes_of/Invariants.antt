@@ -1,5 +1,5 @@
 use Rattle.std.proofs.Common.{◌≡◌, map, take}
-use Rattle.sync_wire.specs.Sending.{raw_of}
+use Rattle.schema_rules.specs.Attributes.{raw_of}
 use Rattle.sync_wire.proofs.sending.attributes_of.Given as goal
 
 -- the attributes so far are in the list, by the names of their types

@@ -4,7 +4,8 @@ use Rattle.turn_cell.specs.Journals.{Every}
 use Rattle.turn_cell.specs.Rule.{idle}
 use Rattle.turn_cell.specs.Steps.{joined}
 use Rattle.turn_cell.specs.Passes.{view_of}
-use Rattle.turn_cell.proofs.Each.{every-at, none-left}
+use Rattle.std.proofs.lemmas.List.{nil_from_length}
+use Rattle.turn_cell.proofs.Each.{every-at}
 use Rattle.turn_cell.proofs.Merged.{merges}
 use Rattle.turn_cell.proofs.closing.gather.Goals as goal
 
@@ -56,7 +57,7 @@ pub returns-clause-seat : goal.returns-clause-seat
 returns-clause-seat g c =
     let inv = c.loop-pass.invariant in
     let left = c.loop-pass.pass-iterator.rest in
-    let none : left.items ≡ [] = none-left left.items (sym left.ok.0 ∙ c.in-None.ensures.steps.0) in
+    let none : left.items ≡ [] = nil_from_length left.items (sym left.ok.0 ∙ c.in-None.ensures.steps.0) in
     let same : c.loop-pass.yielded ≡ c.args.passes.items =
     sym (inv.all ∙ (ap (λ more. c.loop-pass.yielded ++ more) none ∙ append-nil c.loop-pass.yielded)) in
     inv.seat ∙ ap (λ passes. (idle (c.args.seat.now.me.0.passes ++ map view_of passes), [])) same

@@ -1,11 +1,12 @@
 -- What is kept beside the writes after one that is ready.
-use Rattle.std.proofs.Common.{rules, ◌≡◌, ◌+◌, ◌∷◌, [], ◌++◌, ap, length, refl, sym, subst, ◌∙◌, arith}
+use Rattle.std.proofs.Common.{rules, ◌≡◌, ◌+◌, ◌∷◌, [], ◌++◌, ap, length, sym, subst, ◌∙◌, arith}
 use Rattle.entry_tree.specs.declared.op.Write.{Write}
 use Rattle.entry_tree.specs.declared.touched.EntryChange.{EntryChange}
 use Rattle.directory_writes.specs.Directory.{DirectoryState, DirectoryWithRoom, with_write}
 use Rattle.directory_writes.specs.Ready.{IsReadyWrite}
+use Rattle.directory_writes.specs.Standing.{StandingState, LeadsTo}
 use Rattle.directory_writes.specs.Touches.{noted_each, uuids_of}
-use Rattle.directory_writes.proofs.Writes.{kept_ready, put_is}
+use Rattle.directory_writes.proofs.Writes.{kept_ready, leads_ready, put_is}
 use Rattle.directory_writes.proofs.directory.Directory.install.Goals as goal
 
 pub note_each-requires : goal.note_each-requires
@@ -14,6 +15,15 @@ note_each-requires c =
 
 pub push_reserved-requires : goal.push_reserved-requires
 push_reserved-requires c = omega (arith, c.requires.room, ap (λ (v : DirectoryWithRoom). v.room) c.self.view_is)
+
+pub keep_previous-requires : goal.keep_previous-requires
+keep_previous-requires c =
+    let was = c.self.inside in
+    let d : DirectoryState = record { suffix = was.suffix; sid = was.sid; history = was.history; writes = was.accepted.items; log = was.log.log } in
+    let ready = c.args.ready in
+    let is : IsReadyWrite d c.args.op ready = subst (λ (v : DirectoryWithRoom). IsReadyWrite v.state c.args.op ready) (sym c.self.view_is) c.requires.ready in
+    subst (λ (s : StandingState). LeadsTo s.entries ready.preview.touched c.replace-before.new.dest.entries) (sym c.replace-before.ensures.value)
+    (subst (λ (s : StandingState). LeadsTo was.standing.entries ready.preview.touched s.entries) (sym c.replace-before.ensures.after) (leads_ready d c.args.op ready was.standing c.self.invariant is))
 
 pub invariant_of-self : goal.invariant_of-self
 invariant_of-self c =
@@ -24,7 +34,8 @@ invariant_of-self c =
     let is : IsReadyWrite d c.args.op ready = subst (λ (v : DirectoryWithRoom). IsReadyWrite v.state c.args.op ready) (sym c.self.view_is) c.requires.ready in
     let last : c.push_reserved.new.self.items ≡ was.accepted.items ++ w ∷ [] = search rules in
     let notes : c.note_each.new.log.log ≡ noted_each (length was.accepted.items + 1) (uuids_of ready.preview.touched) was.log.log = search rules in
-    kept_ready d c.args.op ready was.standing ready.after c.note_each.new.log.log c.push_reserved.new.self.items c.self.invariant is refl last notes
+    kept_ready d c.args.op ready was.standing c.keep_previous.new.self c.note_each.new.log.log c.push_reserved.new.self.items c.self.invariant is
+    (record { csn = c.is_in_range.ensures; op = c.is_well_formed.ensures }) (c.keep_previous.ensures ∙ c.replace-before.ensures.after) last notes
 
 pub returns-clause-state : goal.returns-clause-state
 returns-clause-state c =

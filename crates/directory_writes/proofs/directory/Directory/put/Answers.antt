@@ -17,3 +17,4 @@ pub returns-clause-ok : goal.returns-clause-ok
 returns-clause-ok c =
     c.install.ensures.state
     ∙ (λ i. with_write (c.make_room.ensures.state i) (record { csn = (c.in_ok-ready.ensures.preview i).csn; op = c.args.op }))
+    ∙ ap (λ (d : DirectoryState). with_write d (record { csn = c.args.preview.csn; op = c.args.op })) c.ready.ensures.state

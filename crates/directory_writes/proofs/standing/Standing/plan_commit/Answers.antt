@@ -7,7 +7,7 @@ use Rattle.directory_writes.specs.Standing.{StandingState}
 use Rattle.directory_writes.proofs.standing.Standing.plan_commit.Goals as goal
 
 pub plan_commit-requires : goal.plan_commit-requires
-plan_commit-requires c = c.self.invariant.unique_names
+plan_commit-requires c = c.self.invariant.0.unique_names
 
 pub returns-in-Ok-clause-plan : goal.returns-in-Ok-clause-plan
 returns-in-Ok-clause-plan c =

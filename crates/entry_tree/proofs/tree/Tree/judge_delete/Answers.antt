@@ -9,12 +9,15 @@ use Rattle.entry_tree.proofs.Removed.{removed, touched_removed}
 use Rattle.entry_tree.proofs.Weighing.{directory_total}
 use Rattle.entry_tree.proofs.tree.Tree.judge_delete.Goals as goal
 
+pub check_delete-requires : goal.check_delete-requires
+check_delete-requires c = ap (map (λ (e : Bor Entry). e.now)) c.as_slice-named.ensures.value ∙ c.in_ok-entries.ensures
+
 pub returns-clause-plan : goal.returns-clause-plan
 returns-clause-plan c =
     let goes = is_named c.args.dn.now in
     let es = values_of c.self.inside.entries in
-    let named : map (λ (e : Bor Entry). e.now) c.deref.result.now ≡ filter goes es =
-    ap (map (λ (e : Bor Entry). e.now)) c.deref.ensures.value ∙ c.in_ok-entries.ensures ∙ ap (filter goes) (sym c.self.view_is)
+    let named : map (λ (e : Bor Entry). e.now) c.as_slice-named.result.now ≡ filter goes es =
+    ap (map (λ (e : Bor Entry). e.now)) c.as_slice-named.ensures.value ∙ c.in_ok-entries.ensures ∙ ap (filter goes) (sym c.self.view_is)
     in
     rw (← c.self.view_is)
     (record {

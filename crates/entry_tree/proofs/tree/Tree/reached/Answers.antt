@@ -17,8 +17,8 @@ returns-in-Base c =
     (λ list. select search (map (λ (e : Bor Entry). e.now) list.items) ≡ select search all)
     (λ list is. ap (select search) is ∙ select_named search all c.in-Base.is) c.at_name.ensures
 
-pub returns-in-One : goal.returns-in-One
-returns-in-One c =
+pub returns-in-Sub : goal.returns-in-Sub
+returns-in-Sub c =
     let all = c.args.self.now in
     let search = search_of c.args.spec.now in
     IfOk-weaker c.near.result (λ (list : Vec (Bor Entry) Global). filter (is_below search.base) (map (λ (e : Bor Entry). e.now) list.items) ≡ filter (is_below search.base) all)

@@ -1,54 +1,13 @@
--- The entries after the changes are those of a directory, and their index is that of their names.
-use Rattle.std.proofs.Common.{◌∙◌, ap, sym, subst, arith}
-use Rattle.std.specs.Map.{values_of}
-use Rattle.entry_writes.specs.State.{IsDirectory}
-use Rattle.entry_writes.specs.Touched.{CanBeMade, with_changes}
-use Rattle.entry_tree.specs.NameIndex.{by_identity, IsIndex}
-use Rattle.entry_tree.proofs.ByIdentity.{keyed_as}
-use Rattle.entry_tree.proofs.NameChanges.{index_made}
-use Rattle.entry_tree.proofs.Weighing.{directory_made, weighs_made}
+-- The copy is changed.
+use Rattle.std.proofs.Common.{◌≡◌, List, sym, subst}
+use Rattle.std.specs.Prelude.{IfOk}
+use Rattle.entry_writes.specs.declared.entry.Entry.{Entry}
+use Rattle.entry_writes.specs.Touched.{with_changes, CanBeMade}
 use Rattle.entry_tree.proofs.tree.Tree.with_changes.Goals as goal
 
-pub weight_with-weight-requires-clause-before : goal.weight_with-weight-requires-clause-before
-weight_with-weight-requires-clause-before c =
-    let es = values_of c.self.inside.entries in
-    let changes = c.list-changes.result.now in
-    let can = subst (CanBeMade es) (sym c.list-changes.ensures) (subst (λ xs. CanBeMade xs c.args.entry_changes.now) (sym c.self.view_is) c.requires) in
-    omega (arith, c.self.invariant.directory.weighed, (weighs_made es changes c.self.invariant.directory.ascends can).before)
-
-pub weight_with-weight-requires-clause-after : goal.weight_with-weight-requires-clause-after
-weight_with-weight-requires-clause-after c =
-    let es = values_of c.self.inside.entries in
-    let changes = c.list-changes.result.now in
-    let can = subst (CanBeMade es) (sym c.list-changes.ensures) (subst (λ xs. CanBeMade xs c.args.entry_changes.now) (sym c.self.view_is) c.requires) in
-    omega (arith, can.directory.light, (weighs_made es changes c.self.invariant.directory.ascends can).after)
-
-pub reindexed-requires : goal.reindexed-requires
-reindexed-requires c = c.self.invariant.index.some
-
-pub changed-requires-clause-keyed : goal.changed-requires-clause-keyed
-changed-requires-clause-keyed c = c.self.invariant.keyed
-
-pub changed-requires-clause-ascends : goal.changed-requires-clause-ascends
-changed-requires-clause-ascends c = c.self.invariant.directory.ascends
-
-pub invariant_of-result : goal.invariant_of-result
-invariant_of-result c =
-    let es = values_of c.self.inside.entries in
-    let changes = c.list-changes.result.now in
-    let can = subst (CanBeMade es) (sym c.list-changes.ensures) (subst (λ xs. CanBeMade xs c.args.entry_changes.now) (sym c.self.view_is) c.requires) in
-    let made = c.in_ok-entries.ensures in
-    let values = keyed_as c.in_ok-entries.entries (with_changes es changes) made in
-    record {
-      keyed = made ∙ ap by_identity (sym values);
-      directory = subst (λ xs. IsDirectory xs c.weight_with-weight.result) (sym values)
-          (directory_made es changes c.self.inside.weight c.weight_with-weight.result c.self.invariant.directory can c.weight_with-weight.ensures);
-      index = subst (IsIndex c.in_ok-names.names) (sym values)
-          (index_made es changes c.self.inside.names c.in_ok-names.names c.self.invariant.index can c.in_ok-names.ensures.some c.in_ok-names.ensures.placed c.in_ok-names.ensures.exact);
-    }
+pub changed_by-requires : goal.changed_by-requires
+changed_by-requires c = subst (λ (es : List Entry). CanBeMade es c.args.entry_changes.now) (sym c.in_ok-copy.ensures) c.requires
 
 pub returns : goal.returns
 returns c =
-    let es = values_of c.self.inside.entries in
-    let changes = c.list-changes.result.now in
-    keyed_as c.in_ok-entries.entries (with_changes es changes) c.in_ok-entries.ensures ∙ (λ i. with_changes (c.self.view_is i) (c.list-changes.ensures i))
+    subst (λ (es : List Entry). IfOk c.changed_by.result (λ (after : List Entry). after ≡ with_changes es c.args.entry_changes.now)) c.in_ok-copy.ensures c.changed_by.ensures

@@ -1,6 +1,6 @@
 use Rattle.std.proofs.Common.{Err, refl, ap}
 use Rattle.ldap_client.proofs.Asking.{ReadsNone, asked_failed, asked_nothing, asked_whole}
-use Rattle.ldap_client.proofs.Sides.{source_same}
+use Rattle.sync_io.proofs.Sides.{source_same}
 use Rattle.ldap_client.proofs.Waiting.{never, same_fault}
 use Rattle.ldap_client.proofs.client.Client.ask.Goals as goal
 

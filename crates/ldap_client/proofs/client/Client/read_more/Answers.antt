@@ -3,7 +3,7 @@ use Rattle.ldap_client.specs.Links.{link_by}
 use Rattle.ldap_client.specs.Receiving.{kept_in}
 use Rattle.ldap_client.specs.declared.fault.ClientFault.TheVariants.{ReadFault, EndOfInput}
 use Rattle.ldap_client.proofs.RoundSteps.{read_ended}
-use Rattle.ldap_client.proofs.Sides.{sink_same}
+use Rattle.sync_io.proofs.Sides.{sink_same}
 use Rattle.ldap_client.proofs.client.Client.read_more.Goals as goal
 
 pub returns-in-Ok-Got : goal.returns-in-Ok-Got

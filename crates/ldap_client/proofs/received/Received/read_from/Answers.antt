@@ -1,7 +1,7 @@
 use Rattle.std.proofs.Common.{[], refl, sym, take, ◌∙◌}
 use Rattle.std.proofs.KnownBytes.{Appends-nil, Consumes-nil}
 use Rattle.std.proofs.lemmas.List.{append-nil}
-use Rattle.ldap_client.proofs.Taking.{keeps_none}
+use Rattle.sync_io.proofs.Sides.{keeps_none}
 use Rattle.ldap_client.proofs.received.Received.read_from.Goals as goal
 
 pub returns-in-Got-clause-reads : goal.returns-in-Got-clause-reads

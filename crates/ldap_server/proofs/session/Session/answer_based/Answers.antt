@@ -2,7 +2,7 @@ use Rattle.std.proofs.Common.{refl, sym}
 use Rattle.ldap_constants.specs.declared.object_identifiers.TheConstants.{SYNC_REQUEST}
 use Rattle.ldap_session.specs.Shown.{search_shown}
 use Rattle.ldap_server.specs.Seen.{point_in}
-use Rattle.ldap_server.specs.Table.{control_named}
+use Rattle.ldap_parts.specs.Controls.{control_named}
 use Rattle.ldap_server.proofs.Searched.{selected_plain, selected_sync}
 use Rattle.ldap_server.proofs.session.Session.answer_based.Goals as goal
 

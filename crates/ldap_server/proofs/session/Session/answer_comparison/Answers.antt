@@ -10,4 +10,4 @@ returns-clause-answer g c =
     let state = g.P.Port.state in
     outcome_code (CompareGives asked.entry asked.name asked.value) c.args.id Compare c.code_of_comparison-code.result
     (point_in state c.args.self.now) (point_in state c.respond.new.self) (state c.code_of_comparison-code.new.port) c.respond.result
-    c.code_of_comparison-code.ensures.comes c.respond.ensures.sends
+    c.code_of_comparison-code.ensures.finds c.respond.ensures.sends

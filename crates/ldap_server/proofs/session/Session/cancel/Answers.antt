@@ -1,6 +1,6 @@
 use Rattle.ldap_server.specs.Seen.{point_in}
 use Rattle.ldap_server.proofs.Endings.{cancelled_none, cancelled_one}
-use Rattle.ldap_server.proofs.Performing.{begun_part, sends_more, standing_is}
+use Rattle.ldap_server.proofs.Performing.{begun_part, sends_more, session_is}
 use Rattle.ldap_server.proofs.session.Session.cancel.Goals as goal
 
 pub returns-in_default-clause-answer : goal.returns-in_default-clause-answer
@@ -16,7 +16,7 @@ returns-in-Ok-clause-answer g c =
     let old = point_in state c.args.self.now in
     let dropped = point_in state c.drop_search.new.self in
     cancelled_one c.args.id c.args.search c.in-Some.search old dropped (point_in state c.respond-in-Ok.new.self) c.respond-in-Ok.result c.in-Some.is c.drop_search.ensures.drops
-    (standing_is _ _ _ _ c.drop_search.ensures.bound c.drop_search.ensures.searches) c.drop_search.ensures.sent
+    (session_is _ _ _ _ c.drop_search.ensures.bound c.drop_search.ensures.searches) c.drop_search.ensures.sent
     (sends_more _ _ dropped (point_in state c.respond-2.new.self) _ _ c.in-Ok.ensures.sends c.respond-in-Ok.ensures.sends)
 
 -- memory ran out in the first one

@@ -1,7 +1,7 @@
 use Rattle.std.proofs.Common.{◌≡◌, ◌<◌, ◌≤◌, ap, arith, length, refl, ◌∙◌}
 use Rattle.ldap_server.specs.HandOuts.{searches_after}
 use Rattle.ldap_server.specs.Seen.{point_in}
-use Rattle.ldap_server.specs.Standing.{Standing}
+use Rattle.ldap_server.specs.SessionState.{SessionState}
 use Rattle.ldap_server.proofs.Handing.{turned_all, turned_begun, turned_next, turned_none, turned_smaller}
 use Rattle.ldap_server.proofs.session.Session.hand_out_all.Goals as goal
 
@@ -14,7 +14,7 @@ pub pass_by-place-requires : goal.pass_by-place-requires
 pass_by-place-requires g c =
     let before = c.loop-place.self.searches in
     let after = c.hand_out.new.self.searches in
-    let same : after.items ≡ before.items = ap (λ (s : Standing). s.searches) c.in-Ok.ensures.turn.same in
+    let same : after.items ≡ before.items = ap (λ (s : SessionState). s.searches) c.in-Ok.ensures.turn.same in
     omega (arith, c.loop-place-test.true, c.len.ensures, before.ok.0, after.ok.0, ap length same)
 
 pub loop-place-preserved : goal.loop-place-preserved
@@ -33,7 +33,7 @@ loop-place-preserved g c =
 pub loop-place-smaller : goal.loop-place-smaller
 loop-place-smaller g c =
     let before = c.loop-place.self.searches in
-    let same : c.hand_out.new.self.searches.items ≡ before.items = ap (λ (s : Standing). s.searches) c.in-Ok.ensures.turn.same in
+    let same : c.hand_out.new.self.searches.items ≡ before.items = ap (λ (s : SessionState). s.searches) c.in-Ok.ensures.turn.same in
     let low : c.loop-place.place < length before.items = omega (arith, c.loop-place-test.true, c.len.ensures, before.ok.0) in
     turned_smaller c.in-Ok.stays c.loop-place.place c.pass_by-place.result before.items c.pass_by-place.new.self.searches.items low c.pass_by-place.ensures.next
     (c.pass_by-place.ensures.searches ∙ ap (searches_after c.in-Ok.stays c.loop-place.place) same)

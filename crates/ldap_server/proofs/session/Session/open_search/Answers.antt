@@ -2,7 +2,7 @@ use Rattle.std.proofs.Common.{[], ◌∷◌, ◌++◌, ap, refl, sym, ◌∙◌}
 use Rattle.std.proofs.lemmas.List.{append-nil}
 use Rattle.sync_provider.specs.declared.searches.Accepted.TheVariants as accepted
 use Rattle.ldap_server.specs.Seen.{point_in}
-use Rattle.ldap_server.proofs.Performing.{begun_after, standing_is}
+use Rattle.ldap_server.proofs.Performing.{begun_after, session_is}
 use Rattle.ldap_server.proofs.Searched.{opened, unopened}
 use Rattle.ldap_server.proofs.session.Session.open_search.Goals as goal
 
@@ -12,7 +12,7 @@ returns-in_default-clause-answer g c = begun_after [] [] (point_in g.P.Port.stat
 pub returns-in-Opened-clause-answer : goal.returns-in-Opened-clause-answer
 returns-in-Opened-clause-answer g c =
     opened c.args.ask c.in-Opened.number c.in-Opened.field-1 (point_in g.P.Port.state c.args.self.now) _ c.in-Opened.ensures.replies
-    (standing_is _ _ _ _ refl (c.push_reserved.ensures.items ∙ ap (λ xs. xs ++ (record { id = c.args.ask.id; number = c.in-Opened.number }) ∷ []) c.reserve.ensures.items)) refl
+    (session_is _ _ _ _ refl (c.push_reserved.ensures.items ∙ ap (λ xs. xs ++ (record { id = c.args.ask.id; number = c.in-Opened.number }) ∷ []) c.reserve.ensures.items)) refl
 
 pub returns-in-Refused-clause-answer : goal.returns-in-Refused-clause-answer
 returns-in-Refused-clause-answer g c =

@@ -1,46 +1,33 @@
-use Rattle.std.proofs.Common.{refl, ◌∙◌}
+use Rattle.std.proofs.Common.{◌≡◌, ◌++◌, sym, ◌∙◌}
+use Rattle.std.specs.List.{flat_map}
 use Rattle.ldap_server.specs.Seen.{point_in}
 use Rattle.ldap_server.specs.Selecting.{entry_octets}
-use Rattle.ldap_server.proofs.Selections.{sent_all, sent_none, sent_one, sent_part}
+use Rattle.ldap_server.proofs.Performing.{part_more}
+use Rattle.ldap_server.proofs.Selections.{sent_then}
 use Rattle.ldap_server.proofs.session.Session.send_entries.Goals as goal
 
-pub loop-entry-init : goal.loop-entry-init
-loop-entry-init g c =
-    let selection = c.args.selection in
-    record {
-      port = refl;
-      sent = sent_none (entry_octets c.args.id selection.selectors.now selection.types_only) c.list-held.result.now (point_in g.P.Port.state c.args.self.now);
-    }
-
-pub loop-entry-preserved : goal.loop-entry-preserved
-loop-entry-preserved g c =
-    let selection = c.args.selection in
-    let state = g.P.Port.state in
-    record {
-      port = c.in-Ok.ensures.port ∙ c.loop-entry.invariant.port;
-      sent = sent_one (entry_octets c.args.id selection.selectors.now selection.types_only) c.list-held.result.now c.loop-entry.entry-index c.entry-item.result
-          (point_in state c.args.self.now) (point_in state c.loop-entry.self) (point_in state c.send_entry.new.self)
-          c.loop-entry-test.true c.entry-item.is c.loop-entry.invariant.sent c.in-Ok.ensures.sends;
-    }
-
 pub returns-in-Err-clause-port : goal.returns-in-Err-clause-port
-returns-in-Err-clause-port g c = c.in-Err.ensures.port ∙ c.loop-entry.invariant.port
+returns-in-Err-clause-port g c = c.in-Err.ensures.port ∙ c.make_room.ensures.port ∙ c.in-Ok.ensures.port
 
 pub returns-in-Err-clause-sends : goal.returns-in-Err-clause-sends
 returns-in-Err-clause-sends g c =
     let selection = c.args.selection in
     let state = g.P.Port.state in
-    sent_part (entry_octets c.args.id selection.selectors.now selection.types_only) c.list-held.result.now c.loop-entry.entry-index
-    (point_in state c.args.self.now) (point_in state c.loop-entry.self) (point_in state c.send_entry.new.self) c.loop-entry.invariant.sent c.in-Err.ensures.sends
+    part_more (flat_map (entry_octets c.args.id selection.selectors.now selection.types_only) c.split_at.result.0.now)
+    (point_in state c.args.self.now) (point_in state c.make_room.new.self) (point_in state c.send_each_entry-2.new.self)
+    (c.make_room.ensures.same ∙ c.in-Ok.ensures.sends) c.in-Err.ensures.sends
 
-pub returns-clause-port : goal.returns-clause-port
-returns-clause-port g c = c.respond.ensures.port ∙ c.loop-entry.invariant.port
+pub returns-in-Ok-send_each_entry-clause-port : goal.returns-in-Ok-send_each_entry-clause-port
+returns-in-Ok-send_each_entry-clause-port g c = c.respond.ensures.port ∙ c.in-Ok-send_each_entry.ensures.port ∙ c.make_room.ensures.port ∙ c.in-Ok.ensures.port
 
-pub returns-clause-sends : goal.returns-clause-sends
-returns-clause-sends g c =
+pub returns-in-Ok-send_each_entry-clause-sends : goal.returns-in-Ok-send_each_entry-clause-sends
+returns-in-Ok-send_each_entry-clause-sends g c =
     let selection = c.args.selection in
     let state = g.P.Port.state in
-    rw (← c.list-held.ensures)
-    (sent_all (entry_octets c.args.id selection.selectors.now selection.types_only) c.list-held.result.now c.loop-entry.entry-index _
-    (point_in state c.args.self.now) (point_in state c.loop-entry.self) (point_in state c.respond.new.self) c.respond.result
-    c.loop-entry-test.false c.loop-entry.invariant.sent c.respond.ensures.sends)
+    let entries = c.args.entries.now in
+    let first = c.split_at.result.0.now in
+    let rest = c.split_at.result.1.now in
+    let parts : entries ≡ first ++ rest = sym c.list-held.ensures ∙ c.split_at.ensures.by_index.0 in
+    sent_then (entry_octets c.args.id selection.selectors.now selection.types_only) first rest entries _
+    (point_in state c.args.self.now) (point_in state c.make_room.new.self) (point_in state c.send_each_entry-2.new.self) (point_in state c.respond.new.self) c.respond.result
+    parts (c.make_room.ensures.same ∙ c.in-Ok.ensures.sends) c.in-Ok-send_each_entry.ensures.sends c.respond.ensures.sends

@@ -13,5 +13,6 @@ returns c =
       small = c.writes.ensures.small;
       accepted = c.writes.ensures.accepted;
       rises = c.writes.ensures.rises;
+      formed = c.writes.ensures.formed;
       state = refl;
     })

@@ -4,7 +4,8 @@ use Rattle.std.specs.Map.{keys_of}
 use Rattle.sync_model.specs.Copy.{Stage, puts_of, staged}
 use Rattle.sync_model.specs.Within.{exceeds_limits}
 use Rattle.sync_consumer.specs.declared.stage.StagedChange.TheVariants.{Delete}
-use Rattle.sync_consumer.specs.Staging.{changes_kept, rises}
+use Rattle.entry_tree.specs.Touched.{rises}
+use Rattle.sync_consumer.specs.Staging.{changes_kept}
 use Rattle.sync_consumer.proofs.Rooms.{staged_count, staged_weight, dropped_within}
 use Rattle.sync_consumer.proofs.Stages.{kept_insert, more_staged}
 use Rattle.sync_consumer.proofs.stage.Stage.delete.Goals as goal

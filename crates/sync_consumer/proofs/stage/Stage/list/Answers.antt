@@ -3,7 +3,8 @@ use Rattle.std.specs.Map.{keys_of}
 use Rattle.std.proofs.lemmas.Result.{IfOk-weaker}
 use Rattle.entry_tree.specs.State.{total_weight, most_weight}
 use Rattle.sync_model.specs.Copy.{Stage, puts_of}
-use Rattle.sync_consumer.specs.Staging.{change_of, changes_kept, rises}
+use Rattle.entry_tree.specs.Touched.{rises}
+use Rattle.sync_consumer.specs.Staging.{change_of, changes_kept}
 use Rattle.sync_consumer.proofs.Stages.{limits}
 use Rattle.sync_consumer.proofs.stage.Stage.list.Goals as goal
 

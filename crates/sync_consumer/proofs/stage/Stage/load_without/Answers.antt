@@ -3,7 +3,8 @@ use Rattle.std.proofs.Common.{◌∙◌, length, ap, sym, arith}
 use Rattle.std.specs.Map.{keys_of}
 use Rattle.entry_tree.specs.State.{found_weight, total_weight}
 use Rattle.sync_model.specs.Copy.{Stage, puts_of}
-use Rattle.sync_consumer.specs.Staging.{changes_kept, count_of, rises}
+use Rattle.entry_tree.specs.Touched.{rises}
+use Rattle.sync_consumer.specs.Staging.{changes_kept, count_of}
 use Rattle.sync_consumer.proofs.Rooms.{staged_least}
 use Rattle.sync_consumer.proofs.Stages.{limits}
 use Rattle.sync_consumer.proofs.stage.Stage.load_without.Goals as goal
