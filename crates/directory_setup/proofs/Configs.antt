@@ -5,7 +5,7 @@ use Rattle.toml.specs.Data.{Data, get, as_integer, as_str, table}
 use Rattle.dn_names.specs.Reading.{name_of_text}
 use Rattle.dn_names.specs.declared.fault.NameFault.{NameFault}
 use Rattle.sync_config.specs.Keys.{Name, has, integer_in, name_in, name_of, number_of, text_in, text_of, with_found}
-use Rattle.sync_config.specs.Settings.{ConfigValue, IsReadAs, bind_name_of, bind_password_of, config_of, config_value, connections_of, ldif_of, listen_of, log_limit_of, queue_limit_of, rounds_in, seats_of, sid_of, suffix_of}
+use Rattle.sync_config.specs.Settings.{ConfigValue, IsReadAs, bind_name_of, bind_password_of, config_of, config_value, connections_of, ldif_of, listen_of, log_limit_of, queue_limit_of, seats_of, sid_of, suffix_of}
 use Rattle.sync_config.specs.Upstreams.{FollowedValue, UpstreamValue, some_upstream, upstream_by, upstream_in, upstream_of, upstream_value}
 use Rattle.sync_config.specs.declared.config.Config.{Config}
 use Rattle.sync_config.specs.declared.fault.ConfigFault.{ConfigFault}
@@ -36,70 +36,34 @@ abbrev upstream_at : Result ConfigValue ConfigFault → Option UpstreamValue
 upstream_at (Ok c) = c.upstream
 upstream_at (Err fault) = None
 
-found_keys :
-    (listen : Result (List ℕ) ConfigFault)
-    (suffix : Result (Option Name) ConfigFault)
-    (sid : Result ℕ ConfigFault)
-    (ldif : Result (Option (List ℕ)) ConfigFault)
-    (log_limit : Result ℕ ConfigFault)
-    (queue_limit : Result ℕ ConfigFault)
-    (bind_name : Result (Option Name) ConfigFault)
-    (bind_password : Result (Option (List ℕ)) ConfigFault)
-    (seats : Result ℕ ConfigFault)
-    (connections : Result ℕ ConfigFault)
-    (followed : Result (Option FollowedValue) ConfigFault)
-    (config : ConfigValue) →
-    with_found {B = ConfigValue} listen (λ listen.
-    with_found suffix (λ suffix.
-    with_found sid (λ sid.
-    with_found ldif (λ ldif.
-    with_found log_limit (λ log_limit.
-    with_found queue_limit (λ queue_limit.
-    with_found bind_name (λ bind_name.
-    with_found bind_password (λ bind_password.
-    with_found seats (λ seats.
-    with_found connections (λ connections.
-    with_found followed (λ followed.
-    Ok (record {
-      listen = listen;
-      suffix = suffix;
-      sid = sid;
-      ldif = ldif;
-      log_limit = log_limit;
-      queue_limit = queue_limit;
-      bind_name = bind_name;
-      bind_password = bind_password;
-      seats = seats;
-      connections = connections;
-      upstream = option_map (λ (f : FollowedValue). f.upstream) followed;
-      rounds = rounds_in followed;
-    })))))))))))) ≡ Ok config
-    → Keyed suffix sid seats followed config
-found_keys (Ok listen) (Ok suffix) (Ok sid) (Ok ldif) (Ok log_limit) (Ok queue_limit) (Ok bind_name) (Ok bind_password) (Ok seats) (Ok connections) (Ok followed) config is = record {
-  suffix_is = ap suffix_in is;
-  sid_is = ap sid_in is;
-  seats_is = ap seats_in is;
-  upstream = followed;
-  followed_is = refl;
-  upstream_is = ap upstream_at is;
-}
-found_keys (Err fault) suffix sid ldif log_limit queue_limit bind_name bind_password seats connections followed config is = absurd cc
-found_keys (Ok listen) (Err fault) sid ldif log_limit queue_limit bind_name bind_password seats connections followed config is = absurd cc
-found_keys (Ok listen) (Ok suffix) (Err fault) ldif log_limit queue_limit bind_name bind_password seats connections followed config is = absurd cc
-found_keys (Ok listen) (Ok suffix) (Ok sid) (Err fault) log_limit queue_limit bind_name bind_password seats connections followed config is = absurd cc
-found_keys (Ok listen) (Ok suffix) (Ok sid) (Ok ldif) (Err fault) queue_limit bind_name bind_password seats connections followed config is = absurd cc
-found_keys (Ok listen) (Ok suffix) (Ok sid) (Ok ldif) (Ok log_limit) (Err fault) bind_name bind_password seats connections followed config is = absurd cc
-found_keys (Ok listen) (Ok suffix) (Ok sid) (Ok ldif) (Ok log_limit) (Ok queue_limit) (Err fault) bind_password seats connections followed config is = absurd cc
-found_keys (Ok listen) (Ok suffix) (Ok sid) (Ok ldif) (Ok log_limit) (Ok queue_limit) (Ok bind_name) (Err fault) seats connections followed config is = absurd cc
-found_keys (Ok listen) (Ok suffix) (Ok sid) (Ok ldif) (Ok log_limit) (Ok queue_limit) (Ok bind_name) (Ok bind_password) (Err fault) connections followed config is = absurd cc
-found_keys (Ok listen) (Ok suffix) (Ok sid) (Ok ldif) (Ok log_limit) (Ok queue_limit) (Ok bind_name) (Ok bind_password) (Ok seats) (Err fault) followed config is = absurd cc
-found_keys (Ok listen) (Ok suffix) (Ok sid) (Ok ldif) (Ok log_limit) (Ok queue_limit) (Ok bind_name) (Ok bind_password) (Ok seats) (Ok connections) (Err fault) config is = absurd cc
+-- what is found before the rest, and the rest
+found_first : {A : Type 0} (found : Result A ConfigFault) (later : A → Result ConfigValue ConfigFault) (config : ConfigValue)
+    → with_found found later ≡ Ok config → (value : A) × (found ≡ Ok value) × (later value ≡ Ok config)
+found_first (Ok value) later config is = (value, refl, is)
+found_first (Err fault) later config is = absurd cc
 
 keyed : (d : Data) (config : ConfigValue) → config_of d ≡ Ok config
     → Keyed (suffix_of d) (sid_of d) (seats_of d) (upstream_of d) config
 keyed d config is =
-    found_keys (listen_of d) (suffix_of d) (sid_of d) (ldif_of d) (log_limit_of d) (queue_limit_of d) (bind_name_of d) (bind_password_of d)
-    (seats_of d) (connections_of d) (upstream_of d) config is
+    let listen = found_first (listen_of d) _ config is in
+    let suffix = found_first (suffix_of d) _ config listen.2 in
+    let sid = found_first (sid_of d) _ config suffix.2 in
+    let ldif = found_first (ldif_of d) _ config sid.2 in
+    let log_limit = found_first (log_limit_of d) _ config ldif.2 in
+    let queue_limit = found_first (queue_limit_of d) _ config log_limit.2 in
+    let bind_name = found_first (bind_name_of d) _ config queue_limit.2 in
+    let bind_password = found_first (bind_password_of d) _ config bind_name.2 in
+    let seats = found_first (seats_of d) _ config bind_password.2 in
+    let connections = found_first (connections_of d) _ config seats.2 in
+    let followed = found_first (upstream_of d) _ config connections.2 in
+    record {
+      suffix_is = suffix.1 ∙ ap suffix_in followed.2;
+      sid_is = sid.1 ∙ ap sid_in followed.2;
+      seats_is = seats.1 ∙ ap seats_in followed.2;
+      upstream = followed.0;
+      followed_is = followed.1;
+      upstream_is = ap upstream_at followed.2;
+    }
 
 -- ---- numbers
 

@@ -1,5 +1,5 @@
 -- What a served directory begins with, by its configuration.
-use Rattle.std.specs.Prelude.{◌≡◌, ◌≢◌, ◌⊎◌, ℕ, ◌+◌, ◌*◌, ◌^◌, ◌≤◌, List, [], Option, Some, None, Ok, IfSome, IsSome, is_some, Bool, true, false}
+use Rattle.std.specs.Prelude.{◌≡◌, ◌≢◌, ◌⊎◌, ℕ, ◌+◌, ◌*◌, ◌^◌, ◌≤◌, List, [], Option, Some, None, Result, Ok, IfOk, IfSome, IsSome, is_some, Bool, true, false}
 use Rattle.dn_names.specs.Names.{TypeAndValue}
 use Rattle.ldap_session.specs.declared.access.Access.{Access}
 use Rattle.ldap_session.specs.declared.access.Access.TheVariants.{Free, Named}
@@ -86,11 +86,12 @@ abbrev pub IsReadFrom : Option Files → List ℕ → FileText → Type 0
 IsReadFrom files name (found.Text text) = IsTextOf files name text
 IsReadFrom files name found.Failed = Unit {0}
 
--- why the text of a configuration is refused, which out of memory is no reason for
+-- why the text of a configuration is refused: it is too long, or else by its keys, for which out of
+-- memory is no reason
 abbrev pub IsRefusedConfig : List ℕ → SetupRefusal → Type 0
 IsRefusedConfig text refusal =
     IsTooLong text refusal
-    ⊎ ((fault : ConfigFault) × (fault ≢ NoMemory) × Refuses text fault
+    ⊎ ((too_long text ≡ None) × (fault : ConfigFault) × (fault ≢ NoMemory) × Refuses text fault
     × (refusal ≡ InConfig fault))
 
 -- the text of a file that is read as this configuration
@@ -138,13 +139,13 @@ IsFilledBy files (Some name) first new =
     (text : List ℕ) × IsTextOf files name text × (too_long text ≡ None)
     × FillsUp (reader_of text) first filling.Filled new
 
--- a record of the file is refused, or its text is too long
+-- the text of the file is too long, or else a record is refused
 abbrev pub IsRefusedFile : Option Files → Option (List ℕ) → PortState → SetupRefusal → Type 0
 IsRefusedFile files None first refusal = ⊥
 IsRefusedFile files (Some name) first refusal =
     (text : List ℕ) × IsTextOf files name text
     × (IsTooLong text refusal
-    ⊎ ((line : ℕ) × (why : LineCause) × (new : PortState)
+    ⊎ ((too_long text ≡ None) × (line : ℕ) × (why : LineCause) × (new : PortState)
     × FillsUp (reader_of text) first (filling.Refused line why) new
     × (refusal ≡ AtLine line why)))
 
@@ -217,3 +218,29 @@ FailsOn (Ready ready) shelf shelf' words words' = (shelf' ≡ shelf) × (words' 
 FailsOn (Refused refusal) shelf shelf' words words' = (shelf' ≡ shelf) × (words' ≡ words)
 FailsOn ReadFault shelf shelf' words words' =
     CountHasRisen shelf shelf' ⊎ CountHasRisen words words'
+
+-- what a directory begins with, as its sources report it: the files of a shelf, and how many calls
+-- of the shelf and of the source of random words have failed
+pub record SetupSources : Type 0 where
+  pub files : Option Files
+  pub shelf_faults : ℕ
+  pub word_faults : ℕ
+
+abbrev pub sources : Option Files → (shelf_faults word_faults : ℕ) → SetupSources
+sources files shelf_faults word_faults = record {
+  files = files;
+  shelf_faults = shelf_faults;
+  word_faults = word_faults;
+}
+
+-- what is to be served has seats, and a filter that can be asked for; with it or a refusal no
+-- source failed, and a read fault comes only where one did; the files stay, and no count falls
+pub record IsServable {E : Type 0}
+    (old new : SetupSources) (result : Result code.Setup E) : Type 0 where
+  pub seats : IfOk result HasSeats
+  pub filter : IfOk result HasFilter
+  pub failed : IfOk result (λ setup.
+      FailsOn setup old.shelf_faults new.shelf_faults old.word_faults new.word_faults)
+  pub files : new.files ≡ old.files
+  pub shelf_later : old.shelf_faults ≤ new.shelf_faults
+  pub words_later : old.word_faults ≤ new.word_faults

@@ -17,18 +17,17 @@ ghost use Rattle.std.specs.Prelude.{
 };
 ghost use Rattle.directory_setup.specs.Setup.{
   Configures,
-  FailsOn,
-  HasFilter,
-  HasSeats,
   IsAskable,
   IsEmpty,
   IsReadConfig,
+  IsServable,
   Loads,
   Makes,
   SetsUp,
   access_by,
   place_of,
   setup_of,
+  sources,
 };
 ghost use Rattle.ldap_filter.specs.FilterTree.{depth, tree_of};
 ghost use Rattle.sync_io.specs.Faults.{CountHasRisen};
@@ -239,6 +238,12 @@ fn place_of(alloc: Global, suffix: Option<Dn>, upstream: &Option<Upstream>) -> (
     }
 }
 
+fn queue_limits(log: u64, queue: u64) -> QueueLimits
+    ensures { result ≡ record { log = log; queue = queue } }
+{
+    QueueLimits { log, queue }
+}
+
 /// The empty directory of a configuration, or None where no random word came.
 fn first_of<W: Words>(
     alloc: Global,
@@ -277,15 +282,13 @@ fn make<R: Wait, F: Shelf, K: Clock, W: Words>(
     requires read { IsReadConfig config }
     requires filter { IfSome config.upstream
         (λ upstream. depth (tree_of upstream.spec.filter) ≤ 32) }
-    ensures files { F.files shelf.new ≡ F.files shelf.old }
     ensures makes { IfOk result (Makes (F.files shelf.old) config) }
-    ensures seats { IfOk result HasSeats }
-    ensures filter { IfOk result HasFilter }
-    ensures failed { IfOk result (λ setup. FailsOn setup
-        (F.shelf_fault_count shelf.old) (F.shelf_fault_count shelf.new)
-        (W.word_fault_count random.old) (W.word_fault_count random.new)) }
-    ensures shelf_later { F.shelf_fault_count shelf.old ≤ F.shelf_fault_count shelf.new }
-    ensures words_later { W.word_fault_count random.old ≤ W.word_fault_count random.new }
+    ensures servable { IsServable
+        (sources (F.files shelf.old) (F.shelf_fault_count shelf.old)
+        (W.word_fault_count random.old))
+        (sources (F.files shelf.new) (F.shelf_fault_count shelf.new)
+        (W.word_fault_count random.new))
+        result }
 {
     let Config {
         listen,
@@ -303,12 +306,8 @@ fn make<R: Wait, F: Shelf, K: Clock, W: Words>(
     } = config;
     let place = place_of(alloc, suffix, &upstream);
     let access = access_of(alloc, bind_name, &bind_password)?;
-    let limits = QueueLimits {
-        log: log_limit,
-        queue: queue_limit,
-    };
-    let first = first_of(alloc, place, sid, limits, random)?;
-    let Some(mut provider) = first else {
+    let limits = queue_limits(log_limit, queue_limit);
+    let Some(mut provider) = first_of(alloc, place, sid, limits, random)? else {
         return Ok(Setup::ReadFault);
     };
     match load(rt, alloc, &mut provider, shelf, &ldif, clock) {
@@ -358,15 +357,13 @@ pub fn set_up<R: Wait, F: Shelf, K: Clock, W: Words>(
     clock: &mut K,
     random: &mut W,
 ) -> Result<Setup, NoMemory>
-    ensures files { F.files shelf.new ≡ F.files shelf.old }
     ensures sets_up { IfOk result (SetsUp (F.files shelf.old) name.now) }
-    ensures seats { IfOk result HasSeats }
-    ensures filter { IfOk result HasFilter }
-    ensures failed { IfOk result (λ setup. FailsOn setup
-        (F.shelf_fault_count shelf.old) (F.shelf_fault_count shelf.new)
-        (W.word_fault_count random.old) (W.word_fault_count random.new)) }
-    ensures shelf_later { F.shelf_fault_count shelf.old ≤ F.shelf_fault_count shelf.new }
-    ensures words_later { W.word_fault_count random.old ≤ W.word_fault_count random.new }
+    ensures servable { IsServable
+        (sources (F.files shelf.old) (F.shelf_fault_count shelf.old)
+        (W.word_fault_count random.old))
+        (sources (F.files shelf.new) (F.shelf_fault_count shelf.new)
+        (W.word_fault_count random.new))
+        result }
 {
     let configured = configure(rt, alloc, shelf, name)?;
     match configured {

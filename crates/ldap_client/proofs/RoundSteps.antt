@@ -1,5 +1,5 @@
 -- What one round of a client that waits for a message comes to.
-use Rattle.std.proofs.Common.{◌≡◌, ℕ, List, [], ◌++◌, Some, None, Ok, Err, refl, sym, ap, subst, ◌∙◌}
+use Rattle.std.proofs.Common.{◌≡◌, ◌≢◌, ℕ, List, [], ◌++◌, Some, None, Ok, Err, refl, sym, ap, subst, ◌∙◌}
 use Rattle.sync_io.specs.Faults.{CountHasRisen}
 use Rattle.std.proofs.lemmas.List.{append-nil}
 use Rattle.ldap_messages.specs.Frame.{partial, read_of}
@@ -20,6 +20,7 @@ round_message old new message link fault begins = record {
   bytes = [];
   reads = subst (λ (l : LinkState). Reads old.link [] l) (sym link) (reads_nothing old.link);
   round = (refl, begins);
+  faultless = λ _. ap (λ (l : LinkState). l.read_faults) link;
   fault = λ live. fault ∙ live;
 }
 
@@ -30,6 +31,7 @@ round_wrong old new place link wrong kept fault = record {
   bytes = [];
   reads = subst (λ (l : LinkState). Reads old.link [] l) (sym link) (reads_nothing old.link);
   round = (refl, wrong, kept);
+  faultless = λ _. ap (λ (l : LinkState). l.read_faults) link;
   fault = λ _. fault;
 }
 
@@ -39,6 +41,7 @@ round_memory old new link kept fault = record {
   bytes = [];
   reads = subst (λ (l : LinkState). Reads old.link [] l) (sym link) (reads_nothing old.link);
   round = (refl, kept);
+  faultless = λ _. ap (λ (l : LinkState). l.read_faults) link;
   fault = λ live. fault ∙ live;
 }
 
@@ -49,6 +52,7 @@ round_read old mid new link kept fault none r = record {
   bytes = r.bytes;
   reads = subst (λ (l : LinkState). Reads l r.bytes new.link) link r.reads;
   round = (none, r.kept ∙ ap (λ (bytes : List ℕ). bytes ++ r.bytes) kept);
+  faultless = λ _. r.faultless (λ is. let wrong : None ≡ Some ReadFault = is in cc) ∙ ap (λ (l : LinkState). l.read_faults) link;
   fault = λ live. r.fault (fault ∙ live);
 }
 
@@ -70,18 +74,21 @@ round_fault old mid new fault link kept same none r = record {
   reads = subst (λ (l : LinkState). Reads l r.bytes new.link) link r.reads;
   round = round_by old mid new fault r.bytes link none r.none
       (r.kept ∙ ap (λ (bytes : List ℕ). mid.kept ++ bytes) r.none ∙ append-nil mid.kept ∙ kept) r.why;
+  faultless = λ other. r.faultless other ∙ ap (λ (l : LinkState). l.read_faults) link;
   fault = λ live. r.fault (same ∙ live);
 }
 
 -- a read that gave nothing more, for which the client answers a fault from now on
 pub read_ended : (old mid new : ClientState) (fault : ClientFault) (bytes : List ℕ) → Reads old.link bytes mid.link → bytes ≡ [] → mid.kept ≡ old.kept ++ bytes
-    → new.link ≡ mid.link → new.kept ≡ mid.kept → IsReadFault (Err fault) old.link mid.link → new.fault ≡ Some fault → lasting fault ≡ Some fault
+    → new.link ≡ mid.link → new.kept ≡ mid.kept → IsReadFault (Err fault) old.link mid.link
+    → (lasting fault ≢ Some ReadFault → mid.link.read_faults ≡ old.link.read_faults) → new.fault ≡ Some fault → lasting fault ≡ Some fault
     → ReadsMore old (Err fault) new
-read_ended old mid new fault bytes reads none kept link same why answers lasts = record {
+read_ended old mid new fault bytes reads none kept link same why faultless answers lasts = record {
   bytes = bytes;
   reads = subst (λ (l : LinkState). Reads old.link bytes l) (sym link) reads;
   kept = same ∙ kept;
   none = none;
   why = subst (λ (l : LinkState). IsReadFault (Err fault) old.link l) (sym link) why;
+  faultless = λ other. ap (λ (l : LinkState). l.read_faults) link ∙ faultless other;
   fault = λ _. answers ∙ sym lasts;
 }

@@ -1,5 +1,5 @@
 -- A client that waits for a message: what it has read meanwhile.
-use Rattle.std.proofs.Common.{◌≡◌, ◌⊎◌, ℕ, List, [], ◌++◌, Option, Some, None, Result, Ok, Err, inl, inr, refl, sym, ap, subst, ◌∙◌, append_assoc, arith}
+use Rattle.std.proofs.Common.{◌≡◌, ◌≢◌, ◌⊎◌, ℕ, List, [], ◌++◌, Option, Some, None, Result, Ok, Err, inl, inr, refl, sym, ap, subst, ◌∙◌, append_assoc, arith}
 use Rattle.std.specs.Io.KnownBytes.{Appends, Consumes}
 use Rattle.std.proofs.KnownBytes.{Appends-nil, Appends-trans, Consumes-nil, Consumes-trans}
 use Rattle.std.proofs.lemmas.List.{append-nil}
@@ -64,6 +64,7 @@ pub record Waiting (first now : ClientState) : Type 0 where
   pub reads : Reads first.link bytes now.link
   pub needed : HasNoMessage first.kept ⊎ (bytes ≡ [])
   pub kept : now.kept ≡ first.kept ++ bytes
+  pub faultless : now.link.read_faults ≡ first.link.read_faults
   pub fault : now.fault ≡ None
 
 -- at first nothing has come
@@ -73,6 +74,7 @@ waiting_none first live = record {
   reads = reads_nothing first.link;
   needed = inr refl;
   kept = sym (append-nil first.kept);
+  faultless = refl;
   fault = live;
 }
 
@@ -83,16 +85,28 @@ waiting_on first mid now so_far r = record {
   reads = reads_then first.link mid.link now.link so_far.bytes r.bytes so_far.reads r.reads;
   needed = inl (none_before first.kept so_far.bytes (subst (λ (kept : List ℕ). read_of kept ≡ partial) so_far.kept r.round.0));
   kept = r.round.1 ∙ ap (λ (kept : List ℕ). kept ++ r.bytes) so_far.kept ∙ append_assoc first.kept so_far.bytes r.bytes;
+  faultless = r.faultless (λ is. let wrong : None ≡ Some ReadFault = is in cc) ∙ so_far.faultless;
   fault = r.fault so_far.fault;
 }
 
+-- what is no fault of a read is answered as none from now on
+no_read_fault : (result : Result Message ClientFault) → result ≢ Err ReadFault → fault_after result ≢ Some ReadFault
+no_read_fault (Ok message) other is = let wrong : None ≡ Some ReadFault = is in cc
+no_read_fault (Err ReadFault) other is = other refl
+no_read_fault (Err WriteFault) other is = let wrong : Some WriteFault ≡ Some ReadFault = is in cc
+no_read_fault (Err (PeerMessage place)) other is = let wrong : Some (PeerMessage place) ≡ Some ReadFault = is in cc
+no_read_fault (Err EndOfInput) other is = let wrong : Some EndOfInput ≡ Some ReadFault = is in cc
+no_read_fault (Err NoMemory) other is = let wrong : None ≡ Some ReadFault = is in cc
+
 -- the round that ends the waiting
 pub waited : (first mid now : ClientState) (result : Result Message ClientFault) (bytes : List ℕ) → (so_far : Waiting first mid) → Reads mid.link bytes now.link → bytes ≡ []
-    → IsNext (first.kept ++ so_far.bytes) first.link result now → (mid.fault ≡ None → now.fault ≡ fault_after result) → GivesNext first result now
-waited first mid now result bytes so_far reads none next fault = record {
+    → IsNext (first.kept ++ so_far.bytes) first.link result now → (fault_after result ≢ Some ReadFault → now.link.read_faults ≡ mid.link.read_faults)
+    → (mid.fault ≡ None → now.fault ≡ fault_after result) → GivesNext first result now
+waited first mid now result bytes so_far reads none next faultless fault = record {
   bytes = so_far.bytes;
   reads = reads_no_more first.link mid.link now.link so_far.bytes bytes so_far.reads reads none;
   needed = so_far.needed;
+  faultless = λ other. faultless (no_read_fault result other) ∙ so_far.faultless;
   next = next;
   fault = fault so_far.fault;
 }
@@ -102,6 +116,7 @@ pub gave_message : (first mid now : ClientState) (message : Message) → Waiting
 gave_message first mid now message so_far r =
     waited first mid now (Ok message) r.bytes so_far r.reads r.round.0
     (subst (λ (kept : List ℕ). BeginsWith kept (message_value message) now.kept) so_far.kept r.round.1)
+    r.faultless
     r.fault
 
 -- nothing more came
@@ -120,4 +135,4 @@ next_of first mid now WriteFault so_far bytes r = absurd r
 pub gave_fault : (first mid now : ClientState) (fault : ClientFault) → Waiting first mid → GoesRound mid (Err fault) now → GivesNext first (Err fault) now
 gave_fault first mid now fault so_far r =
     let next = next_of first mid now fault so_far r.bytes r.round in
-    waited first mid now (Err fault) r.bytes so_far r.reads next.1 next.0 r.fault
+    waited first mid now (Err fault) r.bytes so_far r.reads next.1 next.0 r.faultless r.fault

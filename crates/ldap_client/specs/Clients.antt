@@ -1,5 +1,5 @@
 -- What a client keeps, and what each of its calls does.
-use Rattle.std.specs.Prelude.{◌≡◌, ◌⊎◌, ◌≤◌, ℕ, List, [], ◌++◌, map, Option, Some, None, Result, Ok, Err}
+use Rattle.std.specs.Prelude.{◌≡◌, ◌≢◌, ◌⊎◌, ◌≤◌, ℕ, List, [], ◌++◌, map, Option, Some, None, Result, Ok, Err}
 use Rattle.std.specs.Io.KnownBytes.{Appends, Consumes, IsAtEnd}
 use Rattle.ldap_messages.specs.Whole.{MessageValue, message_value}
 use Rattle.ldap_messages.specs.declared.message.Message.{Message}
@@ -94,12 +94,13 @@ pub record Reads (old : LinkState) (bytes : List ℕ) (new : LinkState) : Type 0
   pub write_faults : new.write_faults ≡ old.write_faults
 
 -- A client that answers no fault is asked for the next message. It reads only where it keeps none
--- that is whole, and nothing that is refused.
+-- that is whole, and nothing that is refused. No read fails but the one for which it is ReadFault.
 pub record GivesNext (old : ClientState) (result : Result Message ClientFault) (new : ClientState)
     : Type 0 where
   pub bytes : List ℕ
   pub reads : Reads old.link bytes new.link
   pub needed : HasNoMessage old.kept ⊎ (bytes ≡ [])
+  pub faultless : result ≢ Err ReadFault → new.link.read_faults ≡ old.link.read_faults
   pub next : IsNext (old.kept ++ bytes) old.link result new
   pub fault : new.fault ≡ fault_after result
 

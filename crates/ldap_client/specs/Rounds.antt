@@ -1,6 +1,6 @@
 -- One round of a client that is asked for a message: the message that stands first in what it
 -- keeps, or one read more.
-use Rattle.std.specs.Prelude.{◌≡◌, ℕ, List, [], ◌++◌, Option, Some, None, Result, Ok, Err, OnErr}
+use Rattle.std.specs.Prelude.{◌≡◌, ◌≢◌, ℕ, List, [], ◌++◌, Option, Some, None, Result, Ok, Err, OnErr}
 use Rattle.std.specs.Io.KnownBytes.{IsAtEnd}
 use Rattle.ldap_messages.specs.Frame.{partial, read_of}
 use Rattle.ldap_messages.specs.Whole.{message_value}
@@ -22,6 +22,14 @@ ComeWith (Ok End) bytes = bytes ≡ []
 ComeWith (Ok Failed) bytes = bytes ≡ []
 ComeWith (Err fault) bytes = bytes ≡ []
 
+-- a read that failed is counted, and nothing else is
+abbrev pub CountsFault : {E : Type 0} → Result Piece E → (before after : ℕ) → Type 0
+CountsFault (Ok (Got count)) before after = after ≡ before
+CountsFault (Ok Quiet) before after = after ≡ before
+CountsFault (Ok End) before after = after ≡ before
+CountsFault (Ok Failed) before after = CountHasRisen before after
+CountsFault (Err fault) before after = after ≡ before
+
 -- why a read gave nothing more
 abbrev pub IsReadFault : Result Unit ClientFault → (before after : LinkState) → Type 0
 IsReadFault (Ok done) before after = Unit {0}
@@ -39,6 +47,7 @@ pub record ReadsMore (old : ClientState) (result : Result Unit ClientFault) (new
   pub kept : new.kept ≡ old.kept ++ bytes
   pub none : OnErr result (bytes ≡ [])
   pub why : IsReadFault result old.link new.link
+  pub faultless : fault_after result ≢ Some ReadFault → new.link.read_faults ≡ old.link.read_faults
   pub fault : old.fault ≡ None → new.fault ≡ fault_after result
 
 -- what came of the bytes that were kept
@@ -64,4 +73,5 @@ pub record GoesRound
   pub bytes : List ℕ
   pub reads : Reads old.link bytes new.link
   pub round : IsRound old.kept bytes old.link result new
+  pub faultless : fault_after result ≢ Some ReadFault → new.link.read_faults ≡ old.link.read_faults
   pub fault : old.fault ≡ None → new.fault ≡ fault_after result

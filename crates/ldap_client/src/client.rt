@@ -43,7 +43,7 @@ impl<L: Link> Client<L> {
         })
     }
 
-    /// GivesNext the link back.
+    /// Gives the link back.
     pub fn into_link(self) -> L
         ensures { result ≡ self.link }
     {
@@ -79,7 +79,7 @@ impl<L: Link> Client<L> {
         Err(ClientFault::WriteFault)
     }
 
-    /// GivesNext the next message. It is `PeerMessage` where what stands in its place is refused
+    /// Gives the next message. It is `PeerMessage` where what stands in its place is refused
     /// (RFC 4511, section 5.1), `EndOfInput` where the link was read to its end and no message is
     /// left, `ReadFault` where the link counts one more failed read, and `NoMemory`, which leaves
     /// what was read to the next call. On a link that waits it may wait.

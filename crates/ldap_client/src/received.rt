@@ -2,7 +2,6 @@
 
 ghost use Rattle.std.specs.Prelude.{◌≡◌, ◌≤◌, ◌+◌, ◌++◌, ℕ, List, [], length, vec_capacity, vec_len, Ok, IfOk, OnOk};
 ghost use Rattle.std.specs.Io.KnownBytes.{Appends, Consumes, IsAtEnd};
-ghost use Rattle.sync_io.specs.Faults.{CountHasRisen};
 
 use ldap_ber::NoMemory;
 use ldap_messages::{Message, MessageFault};
@@ -26,7 +25,7 @@ pub(crate) struct Received {
 
 impl Received {
     ghost use Rattle.ldap_client.specs.Receiving.{TakesFirst, kept_in};
-    ghost use Rattle.ldap_client.specs.Rounds.{ComeWith};
+    ghost use Rattle.ldap_client.specs.Rounds.{ComeWith, CountsFault};
 
     /// Nothing was read yet.
     pub(crate) fn new(alloc: Global) -> Result<Received, NoMemory>
@@ -92,8 +91,8 @@ impl Received {
             × Appends (S.bytes_read source.old) (S.bytes_read source.new) bytes
             × ComeWith result bytes }
         ensures end { result ≡ Ok Piece.End → IsAtEnd (S.bytes_left source.new) }
-        ensures failed { result ≡ Ok Piece.Failed
-            → CountHasRisen (S.read_fault_count source.old) (S.read_fault_count source.new) }
+        ensures faults { CountsFault result (S.read_fault_count source.old)
+            (S.read_fault_count source.new) }
         ensures later { S.read_fault_count source.old ≤ S.read_fault_count source.new }
         ensures apart { S.sink_side source.new ≡ S.sink_side source.old }
     {

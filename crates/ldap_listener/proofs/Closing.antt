@@ -13,13 +13,13 @@ use Rattle.sync_provider.specs.Ports.{Journal, PortState, IsLater}
 use Rattle.sync_provider.specs.declared.journal_note.JournalNote.{JournalNote}
 use Rattle.shared_directory.specs.Desks.{HeldState, NumberedState, port_in, port_journal}
 use Rattle.shared_directory.specs.declared.directory.SharedDirectory.{SharedDirectory}
-use Rattle.shared_directory.specs.Passes.{DirectoryView, IsGivenBack, IsPassOf, IsUpToDate, directory_id, first_port, journal_left, port_left, port_of, ports_of}
+use Rattle.shared_directory.specs.Passes.{DirectoryView, IsGivenBack, IsPassOf, IsUpToDate, directory_id, first_port, journal_left, made_with, port_left, port_of, ports_of}
 use Rattle.ldap_session.specs.declared.access.Access.{Access}
 use Rattle.ldap_server.specs.Session.{fresh}
 use Rattle.ldap_server.proofs.SamePorts.{IsSamePort, drops_same, runs_same, same_here, same_then}
 use Rattle.ldap_listener.specs.Seats.{AllCounted, AllFree, AllSeated, AreAccountedFor, IsServed, KeepsAccounts, ConnectionSeat, busy, busy_count, free, vacant}
 use Rattle.ldap_listener.specs.SeatsOfCode.{seat_of_pass}
-use Rattle.ldap_listener.specs.Serving.{AreClosed, AreOpened, HaveLeft, PortServed, ServesAll}
+use Rattle.ldap_listener.specs.Serving.{AreClosed, AreFirst, AreOpened, HaveLeft, PortServed, SeatsServed, ServesAll}
 use Rattle.ldap_listener.specs.Sessions.{Chain, IsSession, LinkView, ServedSession, sessions_of}
 use Rattle.ldap_listener.proofs.Accounts.{busy-free}
 use Rattle.ldap_listener.proofs.Opening.{accounts-first}
@@ -129,17 +129,19 @@ left-free last (vacant ∷ seats) left = absurd left
 
 -- ---- all connections
 
--- so all links that were accepted were served over one journal
-pub serves_all : {L C M : Type 0} (v : LinkView L) (access : Access) (ports : ℕ) (old new : JournalledProvider) (directory : SharedDirectory)
-    (k : ℕ) (before after : Option (Served L C M)) (first seats : List (ConnectionSeat L))
-    → AreOpened old ports directory first → KeepsAccounts v access (directory_id directory) k before first after seats → length seats ≡ length first → AreClosed directory seats new
-    → ServesAll v access ports old new k before after
-serves_all v access ports old new directory k before after first seats opened keeps count closed =
+-- so all links that were accepted were served over one journal, at the ports of these seats
+pub seats_served : {L C M : Type 0} (v : LinkView L) (access : Access) (count ports : ℕ) (old : JournalledProvider) (directory : SharedDirectory)
+    (k : ℕ) (before after : Option (Served L C M)) (first seats : List (ConnectionSeat L)) (last : NumberedState)
+    → length first ≡ count → ports_of directory ≡ ports → AreFirst ports old 1 first → port_journal (made_with directory).now ≡ journal_in old
+    → KeepsAccounts v access (directory_id directory) k before first after seats → length seats ≡ length first → HaveLeft last seats
+    → HasGrown (ports_of directory) (port_journal (made_with directory).now) (port_journal last)
+    → SeatsServed v access count ports old last k before after
+seats_served v access count ports old directory k before after first seats last many of_ports opened journal keeps same left numbers =
     let accounts : AreAccountedFor v access (λ n. first_port n ports old) before k after seats =
     subst (λ n. AreAccountedFor v access (λ number. first_port number ports old) before n after seats) (omega arith)
-    (keeps.accounts (λ n. first_port n ports old) before 0 (accounts-first v access ports old before first opened.first)) in
-    let none : busy_count seats ≡ 0 = busy-free seats (left-free closed.last seats closed.left) in
-    let length_is : length seats ≡ ports = count ∙ opened.count in
+    (keeps.accounts (λ n. first_port n ports old) before 0 (accounts-first v access ports old before first opened)) in
+    let none : busy_count seats ≡ 0 = busy-free seats (left-free last seats left) in
+    let length_is : length seats ≡ count = same ∙ many in
     record {
       links = accounts.links;
       sessions = accounts.sessions;
@@ -147,13 +149,22 @@ serves_all v access ports old new directory k before after first seats opened ke
       served = accounts.served;
       numbered = subst (λ n. Every (λ (s : ℕ × ServedSession). IsNumber n s.0) accounts.sessions) length_is accounts.numbered;
       count = omega (arith, accounts.count, none);
-      last = closed.last;
-      provider = closed.provider;
-      journal = subst (λ n. HasGrown n (journal_in old) (port_journal closed.last)) opened.ports_are
-          (subst (λ j. HasGrown (ports_of directory) j (port_journal closed.last)) opened.journal closed.numbers);
+      journal = subst (λ n. HasGrown n (journal_in old) (port_journal last)) of_ports
+          (subst (λ j. HasGrown (ports_of directory) j (port_journal last)) journal numbers);
       ports_served = λ number low high.
           let at : 1 + (number - 1) ≡ number = omega (arith, low) in
-          subst (λ n. PortServed n ports old (sessions_of n accounts.sessions) closed.last) at
-          (ports_served v access (IsSome before) ports old accounts.links accounts.sessions accounts.served (directory_id directory) closed.last 1 seats (number - 1)
-          (omega (arith, low, high, length_is)) keeps.order.seated accounts.counted closed.left);
+          subst (λ n. PortServed n ports old (sessions_of n accounts.sessions) last) at
+          (ports_served v access (IsSome before) ports old accounts.links accounts.sessions accounts.served (directory_id directory) last 1 seats (number - 1)
+          (omega (arith, low, high, length_is)) keeps.order.seated accounts.counted left);
     }
+
+-- the same where each port has a seat
+pub serves_all : {L C M : Type 0} (v : LinkView L) (access : Access) (ports : ℕ) (old new : JournalledProvider) (directory : SharedDirectory)
+    (k : ℕ) (before after : Option (Served L C M)) (first seats : List (ConnectionSeat L))
+    → AreOpened old ports directory first → KeepsAccounts v access (directory_id directory) k before first after seats → length seats ≡ length first → AreClosed directory seats new
+    → ServesAll v access ports old new k before after
+serves_all v access ports old new directory k before after first seats opened keeps count closed = record {
+  last = closed.last;
+  provider = closed.provider;
+  served = seats_served v access ports ports old directory k before after first seats closed.last opened.count opened.ports_are opened.first opened.journal keeps count closed.left closed.numbers;
+}

@@ -1,13 +1,11 @@
 -- One more port of a directory, beside those of its seats.
-use Rattle.std.proofs.Common.{◌≡◌, ℕ, suc, ◌+◌, ◌-◌, List, [], ◌∷◌, ◌++◌, length, map, Option, sym, ap, ◌∙◌, subst, arith}
+use Rattle.std.proofs.Common.{◌≡◌, ℕ, suc, ◌+◌, List, [], ◌∷◌, ◌++◌, length, map, Option, sym, ap, ◌∙◌, subst, arith}
 use Rattle.std.proofs.lemmas.List.{length-append, length-map}
-use Rattle.std.specs.Prelude.{IsSome}
 use Rattle.atomic_table.specs.Seated.{TableId}
-use Rattle.turn_cell.specs.Journals.{Every, HasGrown, IsNumber}
 use Rattle.turn_cell.specs.Passes.{view_of}
 use Rattle.turn_cell.specs.declared.pass.Pass.{Pass}
 use Rattle.sync_io.specs.Net.{Served}
-use Rattle.sync_provider.specs.Journal.{JournalledProvider, journal_in}
+use Rattle.sync_provider.specs.Journal.{JournalledProvider}
 use Rattle.sync_provider.specs.Ports.{IsLater, PortState}
 use Rattle.sync_provider.specs.declared.journal_note.JournalNote.{JournalNote}
 use Rattle.shared_directory.proofs.First.{first_journal}
@@ -17,13 +15,12 @@ use Rattle.shared_directory.specs.Passes.{IsPassOf, directory_id, first_port, ma
 use Rattle.shared_directory.specs.declared.directory.SharedDirectory.{SharedDirectory}
 use Rattle.ldap_session.specs.declared.access.Access.{Access}
 use Rattle.ldap_listener.specs.Beside.{AreOpenedBeside, ServesBeside}
-use Rattle.ldap_listener.specs.Seats.{AreAccountedFor, KeepsAccounts, ConnectionSeat, busy, busy_count, free, vacant}
+use Rattle.ldap_listener.specs.Seats.{KeepsAccounts, ConnectionSeat, busy, free, vacant}
 use Rattle.ldap_listener.specs.SeatsOfCode.{seat_of_pass}
-use Rattle.ldap_listener.specs.Serving.{AreClosed, AreFirst, HaveLeft, PortServed}
-use Rattle.ldap_listener.specs.Sessions.{LinkView, ServedSession, sessions_of}
-use Rattle.ldap_listener.proofs.Accounts.{busy-free}
-use Rattle.ldap_listener.proofs.Closing.{known, left-free, ports_served}
-use Rattle.ldap_listener.proofs.Opening.{accounts-first, first-known, first-seated}
+use Rattle.ldap_listener.specs.Serving.{AreClosed, AreFirst, HaveLeft}
+use Rattle.ldap_listener.specs.Sessions.{LinkView}
+use Rattle.ldap_listener.proofs.Closing.{known, seats_served}
+use Rattle.ldap_listener.proofs.Opening.{first-known, first-seated}
 
 -- ---- before the first connection
 
@@ -83,30 +80,12 @@ pub serves_beside : {L C M : Type 0} {g : _} (v : LinkView L) (access : Access) 
     → AreClosed directory (seats ++ seat_of_pass back ∷ []) new → IsPassOf (directory_id directory) back → Did (port_of (view_of pass)) (port_of (view_of back))
     → ServesBeside v access count old new k before after Did
 serves_beside v access count old new directory k before after first seats pass back Did opened keeps many closed home did =
-    let ports = suc count in
     let both = left_front closed.last seats (seat_of_pass back) closed.left in
-    let accounts : AreAccountedFor v access (λ n. first_port n ports old) before k after seats =
-    subst (λ n. AreAccountedFor v access (λ number. first_port number ports old) before n after seats) (omega arith)
-    (keeps.accounts (λ n. first_port n ports old) before 0 (accounts-first v access ports old before first opened.first)) in
-    let none : busy_count seats ≡ 0 = busy-free seats (left-free closed.last seats both.0) in
-    let length_is : length seats ≡ count = many ∙ opened.count in
     let own = known (view_of back) home.1 in
     record {
-      links = accounts.links;
-      sessions = accounts.sessions;
-      reported = accounts.reported;
-      served = accounts.served;
-      numbered = subst (λ n. Every (λ (s : ℕ × ServedSession). IsNumber n s.0) accounts.sessions) length_is accounts.numbered;
-      count = omega (arith, accounts.count, none);
       last = closed.last;
       provider = closed.provider;
-      journal = subst (λ n. HasGrown n (journal_in old) (port_journal closed.last)) opened.ports_are
-          (subst (λ j. HasGrown (ports_of directory) j (port_journal closed.last)) opened.journal closed.numbers);
-      ports_served = λ number low high.
-          let at : 1 + (number - 1) ≡ number = omega (arith, low) in
-          subst (λ n. PortServed n ports old (sessions_of n accounts.sessions) closed.last) at
-          (ports_served v access (IsSome before) ports old accounts.links accounts.sessions accounts.served (directory_id directory) closed.last 1 seats (number - 1)
-          (omega (arith, low, high, length_is)) keeps.order.seated accounts.counted both.0);
+      served = seats_served v access count (suc count) old directory k before after first seats closed.last opened.count opened.ports_are opened.first opened.journal keeps many both.0 closed.numbers;
       left = port_of (view_of back);
       did = subst (λ (p : PortState). Did p (port_of (view_of back))) opened.port did;
       later = subst (λ n. IsLater (port_of (view_of back)) (port_in n (port_of (view_of back)).ports closed.last)) (sym own.0)

@@ -1,10 +1,8 @@
 -- A directory whose connections were served, while one more port of it was used by another.
-use Rattle.std.specs.Prelude.{◌≡◌, ◌≤◌, ℕ, suc, List, length, Option, IsSome}
-use Rattle.std.specs.List.{AllZip}
+use Rattle.std.specs.Prelude.{◌≡◌, ℕ, suc, List, length, Option}
 use Rattle.sync_io.specs.Net.{Served}
 use Rattle.sync_provider.specs.Journal.{JournalledProvider, journal_in}
 use Rattle.sync_provider.specs.Ports.{PortState, IsLater}
-use Rattle.turn_cell.specs.Journals.{Every, HasGrown, IsNumber}
 use Rattle.turn_cell.specs.Passes.{view_of}
 use Rattle.turn_cell.specs.declared.pass.Pass.{Pass}
 use Rattle.sync_provider.specs.declared.journal_note.JournalNote.{JournalNote}
@@ -12,9 +10,9 @@ use Rattle.shared_directory.specs.Desks.{HeldState, NumberedState, port_in, port
 use Rattle.shared_directory.specs.Passes.{IsPassOf, directory_id, first_port, made_with, port_of, ports_of}
 use Rattle.shared_directory.specs.declared.directory.SharedDirectory.{SharedDirectory}
 use Rattle.ldap_session.specs.declared.access.Access.{Access}
-use Rattle.ldap_listener.specs.Seats.{AllSeated, IsReported, IsServed, ConnectionSeat}
-use Rattle.ldap_listener.specs.Serving.{AreFirst, PortServed}
-use Rattle.ldap_listener.specs.Sessions.{LinkView, ServedSession, sessions_of}
+use Rattle.ldap_listener.specs.Seats.{AllSeated, ConnectionSeat}
+use Rattle.ldap_listener.specs.Serving.{AreFirst, SeatsServed}
+use Rattle.ldap_listener.specs.Sessions.{LinkView}
 
 -- A directory goes on from this provider: each of its ports but the last has a free seat, and the
 -- pass of the last stands beside them.
@@ -36,17 +34,9 @@ pub record ServesBeside {L C M : Type 0}
     (v : LinkView L) (access : Access) (seats : ℕ) (old new : JournalledProvider)
     (n : ℕ) (before after : Option (Served L C M))
     (Did : (first left : PortState) → Type 0) : Type 0 where
-  pub links : List L
-  pub sessions : List (ℕ × ServedSession)
-  pub reported : IsReported before n after links
-  pub served : AllZip (IsServed v access (IsSome before)) links sessions
-  pub numbered : Every (λ (s : ℕ × ServedSession). IsNumber seats s.0) sessions
-  pub count : length links ≡ n
   pub last : NumberedState
   pub provider : last.provider ≡ new
-  pub journal : HasGrown (suc seats) (journal_in old) (port_journal last)
-  pub ports_served : (number : ℕ) → 1 ≤ number → number ≤ seats
-      → PortServed number (suc seats) old (sessions_of number sessions) last
+  pub served : SeatsServed v access seats (suc seats) old last n before after
   pub left : PortState
   pub did : Did (first_port (suc seats) (suc seats) old) left
   pub later : IsLater left (port_in left.number left.ports last)

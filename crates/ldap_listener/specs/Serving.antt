@@ -1,7 +1,9 @@
 -- A directory whose connections were served.
 use Rattle.std.specs.Prelude.{◌≡◌, ℕ, suc, ◌<◌, ◌≤◌, List, [], ◌∷◌, length, Option, IsSome, Result, Ok, Err}
 use Rattle.std.specs.List.{AllZip}
+use Rattle.atomic_table.specs.Seated.{TableId}
 use Rattle.sync_io.specs.Net.{Served}
+use Rattle.sync_io.specs.declared.dial.NetFault.{NetFault}
 use Rattle.sync_provider.specs.Journal.{JournalledProvider, journal_in}
 use Rattle.sync_provider.specs.Ports.{PortState, IsLater}
 use Rattle.turn_cell.specs.Journals.{Every, HasGrown, IsNumber}
@@ -9,7 +11,7 @@ use Rattle.shared_directory.specs.Desks.{NumberedState, port_in, port_journal}
 use Rattle.shared_directory.specs.Passes.{directory_id, first_port, made_with, port_of, ports_of}
 use Rattle.shared_directory.specs.declared.directory.SharedDirectory.{SharedDirectory}
 use Rattle.ldap_session.specs.declared.access.Access.{Access}
-use Rattle.ldap_listener.specs.Seats.{AllSeated, IsReported, IsServed, ConnectionSeat, busy, free, vacant}
+use Rattle.ldap_listener.specs.Seats.{AcceptsLinks, AllFree, AllSeated, CountsFaults, IsReported, IsServed, ConnectionSeat, busy, free, vacant}
 use Rattle.ldap_listener.specs.Sessions.{Chain, LinkView, ServedSession, sessions_of}
 
 -- ---- the seats of a directory before the first connection and after the last one
@@ -69,19 +71,40 @@ pub record PortServed
   pub later : IsLater left (port_in number ports last)
 
 -- n links were accepted, and each was released after its session, which has the number of the port
--- that it was at. One journal goes on from that of the provider: each entry since has the number of
--- a port, and the sessions of each port had their replies from it, at places in order.
-pub record ServesAll {L C M : Type 0}
-    (v : LinkView L) (access : Access) (ports : ℕ) (old new : JournalledProvider)
-    (n : ℕ) (before after : Option (Served L C M)) : Type 0 where
+-- that it was at, one of those of the seats. Each entry of the journal since that of the provider
+-- has the number of one of all ports, and the sessions of each port had their replies from it, at
+-- places in order.
+pub record SeatsServed {L C M : Type 0}
+    (v : LinkView L) (access : Access) (seats ports : ℕ) (old : JournalledProvider)
+    (last : NumberedState) (n : ℕ) (before after : Option (Served L C M)) : Type 0 where
   pub links : List L
   pub sessions : List (ℕ × ServedSession)
   pub reported : IsReported before n after links
   pub served : AllZip (IsServed v access (IsSome before)) links sessions
-  pub numbered : Every (λ (s : ℕ × ServedSession). IsNumber ports s.0) sessions
+  pub numbered : Every (λ (s : ℕ × ServedSession). IsNumber seats s.0) sessions
   pub count : length links ≡ n
+  pub journal : HasGrown ports (journal_in old) (port_journal last)
+  pub ports_served : (number : ℕ) → 1 ≤ number → number ≤ seats
+      → PortServed number ports old (sessions_of number sessions) last
+
+-- the same where each port has a seat, and the provider that is given back is the last one
+pub record ServesAll {L C M : Type 0}
+    (v : LinkView L) (access : Access) (ports : ℕ) (old new : JournalledProvider)
+    (n : ℕ) (before after : Option (Served L C M)) : Type 0 where
   pub last : NumberedState
   pub provider : last.provider ≡ new
-  pub journal : HasGrown ports (journal_in old) (port_journal last)
-  pub ports_served : (number : ℕ) → 1 ≤ number → number ≤ ports
-      → PortServed number ports old (sessions_of number sessions) last
+  pub served : SeatsServed v access ports ports old last n before after
+
+-- ---- the links of a door
+
+-- Links were served as they came, as many as were to be, or until the net gave no further one. All
+-- are accounted for, all seats are free, and the net counted a fault exactly where it failed.
+pub record ServesLinks {L C M : Type 0}
+    (v : LinkView L) (access : Access) (cell : TableId) (connections : ℕ)
+    (answer : Result Unit NetFault)
+    (old : Option (Served L C M)) (seats : List (ConnectionSeat L)) (before : ℕ)
+    (new : Option (Served L C M)) (seats' : List (ConnectionSeat L)) (after : ℕ) : Type 0 where
+  pub count : length seats' ≡ length seats
+  pub free : AllFree seats'
+  pub accounts : AcceptsLinks v access cell (λ k. IsAll answer connections k) old seats new seats'
+  pub faults : CountsFaults answer before after

@@ -1,11 +1,11 @@
 //! How connections are accepted, and their threads started.
 
-ghost use Rattle.std.specs.Prelude.{◌≡◌, ℕ, length, map, IfErr, IfOk, OnOk};
+ghost use Rattle.std.specs.Prelude.{◌≡◌, ℕ, map, IfErr, IfOk, OnOk};
 ghost use Rattle.turn_cell.specs.Passes.{cell_of, view_of};
 ghost use Rattle.shared_directory.specs.Passes.{IsPassOf, directory_id, port_of};
-ghost use Rattle.ldap_listener.specs.Seats.{AcceptsLinks, AllFree, AreInOrder, CountsFaults};
+ghost use Rattle.ldap_listener.specs.Seats.{AcceptsLinks, AreInOrder, CountsFaults};
 ghost use Rattle.ldap_listener.specs.SeatsOfCode.{seat_of};
-ghost use Rattle.ldap_listener.specs.Serving.{IsAll};
+ghost use Rattle.ldap_listener.specs.Serving.{IsAll, ServesLinks};
 ghost use Rattle.ldap_listener.specs.Sessions.{HasServed, seen_by};
 
 use crate::collecting::{free_all, wait_for_seat};
@@ -146,16 +146,13 @@ pub(crate) fn serve_links<R: Threads + Wait + Sync, N: Net, K: Clock + Sync, G: 
 ) -> (Result<(), NetFault>, Vec<Seat<N::Link>>)
     requires order { AreInOrder (directory_id server.now.directory.now)
         (N.served net.old) (map seat_of seats.items) }
-    ensures count { length result.1.items ≡ length seats.items }
-    ensures free { AllFree (map seat_of result.1.items) }
-    ensures accounts { AcceptsLinks
+    ensures { ServesLinks
         (seen_by N.Link.bytes_left N.Link.bytes_read N.Link.bytes_held
         N.Link.read_fault_count N.Link.write_fault_count)
         server.entry.now.access.now (directory_id server.entry.now.directory.now)
-        (λ k. IsAll result.0 connections k)
-        (N.served net.old) (map seat_of seats.items)
-        (N.served net.new) (map seat_of result.1.items) }
-    ensures faults { CountsFaults result.0 (N.net_fault_count net.old) (N.net_fault_count net.new) }
+        connections result.0
+        (N.served net.old) (map seat_of seats.items) (N.net_fault_count net.old)
+        (N.served net.new) (map seat_of result.1.items) (N.net_fault_count net.new) }
 {
     let (accepted, seats, _net) = thread::scope(
         thread::scope_env(),
@@ -164,17 +161,14 @@ pub(crate) fn serve_links<R: Threads + Wait + Sync, N: Net, K: Clock + Sync, G: 
             requires { AreInOrder (directory_id server.now.directory.now)
                 (N.served net.now) (map seat_of seats.items) }
             ensures same { result.2.ghost_name ≡ net.entry.ghost_name }
-            ensures count { length result.1.items ≡ length seats.items }
-            ensures free { AllFree (map seat_of result.1.items) }
-            ensures accounts { AcceptsLinks
+            ensures serves { ServesLinks
                 (seen_by N.Link.bytes_left N.Link.bytes_read N.Link.bytes_held
                 N.Link.read_fault_count N.Link.write_fault_count)
                 server.entry.now.access.now (directory_id server.entry.now.directory.now)
-                (λ k. IsAll result.0 connections k)
-                (N.served net.entry.now) (map seat_of seats.items)
-                (N.served result.2.now) (map seat_of result.1.items) }
-            ensures faults { CountsFaults result.0
-                (N.net_fault_count net.entry.now) (N.net_fault_count result.2.now) }
+                connections result.0
+                (N.served net.entry.now) (map seat_of seats.items) (N.net_fault_count net.entry.now)
+                (N.served result.2.now) (map seat_of result.1.items)
+                (N.net_fault_count result.2.now) }
         {
             let mut door = door;
             let mut seats = seats;

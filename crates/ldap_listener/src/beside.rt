@@ -1,17 +1,16 @@
 //! A directory whose connections are served while it follows another one.
 
-ghost use Rattle.std.specs.Prelude.{◌≡◌, ◌≢◌, ◌≤◌, ℕ, length, map, IfOk, IsErrOf, OnErr};
+ghost use Rattle.std.specs.Prelude.{◌≡◌, ◌≤◌, ℕ, map, IfOk, IsErrOf, OnErr};
 ghost use Rattle.turn_cell.specs.Passes.{view_of};
 ghost use Rattle.entry_tree.specs.Selection.{search_of};
 ghost use Rattle.ldap_client.specs.Links.{link_by};
 ghost use Rattle.ldap_filter.specs.FilterTree.{depth, tree_of};
 ghost use Rattle.ldap_listener.specs.Beside.{AreOpenedBeside, ServesBeside};
-ghost use Rattle.ldap_listener.specs.Seats.{AcceptsLinks, AllFree, AreInOrder, CountsFaults};
+ghost use Rattle.ldap_listener.specs.Seats.{AreInOrder};
 ghost use Rattle.ldap_listener.specs.SeatsOfCode.{seat_of};
-ghost use Rattle.ldap_listener.specs.Serving.{IsAll};
+ghost use Rattle.ldap_listener.specs.Serving.{IsAll, ServesLinks};
 ghost use Rattle.ldap_listener.specs.Sessions.{seen_by};
 ghost use Rattle.replica_node.specs.Replicas.{Follows};
-ghost use Rattle.replica_node.specs.declared.end.NodeEnd.TheVariants.{NoMemory};
 ghost use Rattle.shared_directory.specs.Passes.{IsPassOf, directory_id, port_of};
 ghost use Rattle.sync_io.specs.Faults.{CountHasRisen};
 
@@ -54,7 +53,7 @@ struct Followed<D> {
 /// one more port of it: the two halves of one join. Where no thread can be made, the links are
 /// served first.
 pub fn serve_replica<
-    R: Threads + Wait + Sync,
+    R: Threads + Wait + Eprint + Sync,
     N: Net,
     K: Clock + Sync,
     G: Gate + Sync,
@@ -80,7 +79,7 @@ pub fn serve_replica<
         (seen_by N.Link.bytes_left N.Link.bytes_read N.Link.bytes_held
         N.Link.read_fault_count N.Link.write_fault_count)
         access.now limits.seats provider done.provider k (N.served net.old) (N.served net.new)
-        (λ first left. done.end ≢ NoMemory → Follows
+        (λ first left. Follows
         (link_by D.Link.bytes_left D.Link.bytes_read D.Link.bytes_held
         D.Link.read_fault_count D.Link.write_fault_count)
         upstream.now.address
@@ -159,7 +158,7 @@ fn open_beside<N: Net>(
 
 /// The two halves: the acceptor with its connections, and the replica at the port of this pass.
 fn serve_beside<
-    R: Threads + Wait + Sync,
+    R: Threads + Wait + Eprint + Sync,
     N: Net,
     K: Clock + Sync,
     G: Gate + Sync,
@@ -179,18 +178,15 @@ fn serve_beside<
         (N.served net.old) (map seat_of seats.items) }
     requires pass { IsPassOf (directory_id server.now.directory.now) pass }
     requires filter { depth (tree_of upstream.now.spec.filter) ≤ 32 }
-    ensures count { length result.1.items ≡ length seats.items }
-    ensures free { AllFree (map seat_of result.1.items) }
-    ensures accounts { AcceptsLinks
+    ensures serves { ServesLinks
         (seen_by N.Link.bytes_left N.Link.bytes_read N.Link.bytes_held
         N.Link.read_fault_count N.Link.write_fault_count)
         server.entry.now.access.now (directory_id server.entry.now.directory.now)
-        (λ k. IsAll result.0 connections k)
-        (N.served net.old) (map seat_of seats.items)
-        (N.served net.new) (map seat_of result.1.items) }
-    ensures faults { CountsFaults result.0 (N.net_fault_count net.old) (N.net_fault_count net.new) }
+        connections result.0
+        (N.served net.old) (map seat_of seats.items) (N.net_fault_count net.old)
+        (N.served net.new) (map seat_of result.1.items) (N.net_fault_count net.new) }
     ensures pass { IsPassOf (directory_id server.entry.now.directory.now) result.2.pass }
-    ensures follows { result.2.end ≢ NoMemory → Follows
+    ensures follows { Follows
         (link_by D.Link.bytes_left D.Link.bytes_read D.Link.bytes_held
         D.Link.read_fault_count D.Link.write_fault_count)
         upstream.now.address
@@ -202,7 +198,7 @@ fn serve_beside<
         requires { IsPassOf (directory_id server.now.directory.now) pass
             × (depth (tree_of upstream.now.spec.filter) ≤ 32) }
         ensures pass { IsPassOf (directory_id server.entry.now.directory.now) result.pass }
-        ensures follows { result.end ≢ NoMemory → Follows
+        ensures follows { Follows
             (link_by D.Link.bytes_left D.Link.bytes_read D.Link.bytes_held
             D.Link.read_fault_count D.Link.write_fault_count)
             upstream.entry.now.address
@@ -217,17 +213,13 @@ fn serve_beside<
         requires { AreInOrder (directory_id server.now.directory.now)
             (N.served net.now) (map seat_of seats.items) }
         ensures same { result.2.ghost_name ≡ net.entry.ghost_name }
-        ensures count { length result.1.items ≡ length seats.items }
-        ensures free { AllFree (map seat_of result.1.items) }
-        ensures accounts { AcceptsLinks
+        ensures serves { ServesLinks
             (seen_by N.Link.bytes_left N.Link.bytes_read N.Link.bytes_held
             N.Link.read_fault_count N.Link.write_fault_count)
             server.entry.now.access.now (directory_id server.entry.now.directory.now)
-            (λ k. IsAll result.0 connections k)
-            (N.served net.entry.now) (map seat_of seats.items)
-            (N.served result.2.now) (map seat_of result.1.items) }
-        ensures faults { CountsFaults result.0
-            (N.net_fault_count net.entry.now) (N.net_fault_count result.2.now) }
+            connections result.0
+            (N.served net.entry.now) (map seat_of seats.items) (N.net_fault_count net.entry.now)
+            (N.served result.2.now) (map seat_of result.1.items) (N.net_fault_count result.2.now) }
     {
         let (accepted, seats) = serve_links(server, net, door, seats, connections);
         (accepted, seats, net)
@@ -237,7 +229,7 @@ fn serve_beside<
 }
 
 /// Follows an upstream at the port of a pass, which it gives back.
-fn follow_upstream<R: Wait, K: Clock, G: Gate, D: Dial>(
+fn follow_upstream<R: Wait + Eprint, K: Clock, G: Gate, D: Dial>(
     server: &Server<'_, R, K, G>,
     pass: DirectoryPass,
     dial: D,
@@ -247,7 +239,7 @@ fn follow_upstream<R: Wait, K: Clock, G: Gate, D: Dial>(
     requires pass { IsPassOf (directory_id server.now.directory.now) pass }
     requires filter { depth (tree_of upstream.now.spec.filter) ≤ 32 }
     ensures pass { IsPassOf (directory_id server.entry.now.directory.now) result.pass }
-    ensures follows { result.end ≢ NoMemory → Follows
+    ensures follows { Follows
         (link_by D.Link.bytes_left D.Link.bytes_read D.Link.bytes_held
         D.Link.read_fault_count D.Link.write_fault_count)
         upstream.now.address

@@ -9,7 +9,7 @@
 //!                      partialAttribute PartialAttribute
 //! ```
 
-ghost use Rattle.std.specs.Prelude.{◌≡◌, ◌<◌, ◌++◌, length, Ok, OnOk, OnErr};
+ghost use Rattle.std.specs.Prelude.{◌≡◌, ◌<◌, ◌≤◌, ◌++◌, length, Ok, OnOk, OnErr};
 ghost use Rattle.std.specs.List.{flat_map};
 ghost use Rattle.ldap_ber.specs.Canonical.{element};
 ghost use Rattle.ldap_ber.specs.Reading.{many_at};
@@ -58,18 +58,26 @@ pub fn attributes_of(alloc: Global, reader: &mut Reader) -> Result<RawList, Comp
     let mut ahead = reader.copy();
     let whole = ahead.expect(0x30)?;
     let mut inner = Reader::inside(&whole);
-    let attributes = attributes_in(alloc, &mut inner)?;
+    let attributes = attributes_in(alloc, &mut inner, room_for(whole.body.len()))?;
     *reader = ahead;
     Ok(attributes)
 }
 
-/// The attributes that are left.
+/// How many attributes a list of these octets has room for at first: one for each 32 octets, but
+/// sixteen at most. So they need not be counted, and a long value takes no room in the list.
+fn room_for(octets: usize) -> usize
+    ensures { result ≤ 16 }
+{
+    let room = octets / 32;
+    if room < 16 { room } else { 16 }
+}
+
+/// The attributes that are left, in a list that has this room at first.
 #[tactic(auto, using(crate::proofs::AttributeLemmas::attributes_go_on, crate::proofs::AttributeLemmas::attributes_fail, crate::proofs::AttributeLemmas::attributes_end))]
-fn attributes_in(alloc: Global, reader: &mut Reader) -> Result<RawList, ComponentFault>
+fn attributes_in(alloc: Global, reader: &mut Reader, room: usize) -> Result<RawList, ComponentFault>
     ensures { Gives ComponentFails (λ attributes. Ok attributes) result
         (many_at attribute_at reader.old.stop reader.old.left) }
 {
-    let room = reader.count().unwrap_or(0);
     let mut attributes = RawList::with_room(alloc, room)?;
     while !reader.is_empty() {
         let attribute = attribute_of(alloc, reader)?;

@@ -45,7 +45,8 @@ fn strings_in(alloc: Global, reader: &mut Reader) -> Result<OctetsList, Componen
     if reader.is_empty() {
         return Ok(OctetsList::of_one(alloc, first));
     }
-    let strings = strings_after(alloc, first, reader)?;
+    let rest = reader.copy();
+    let strings = strings_after(alloc, first, &rest)?;
     Ok(OctetsList::from(strings))
 }
 
@@ -55,16 +56,17 @@ fn strings_in(alloc: Global, reader: &mut Reader) -> Result<OctetsList, Componen
 fn strings_after(
     alloc: Global,
     first: Octets,
-    reader: &mut Reader,
+    reader: &Reader,
 ) -> Result<Vec<Octets>, ComponentFault>
     ensures { Gives ComponentFails (λ strings. Ok strings.items) result
-        (strings_from_first first reader.old.stop reader.old.left) }
+        (strings_from_first first reader.now.stop reader.now.left) }
 {
     let room = reader.count().unwrap_or(0);
     let mut strings = Vec::with_capacity(alloc, room.saturating_add(1))?;
     strings.push(first)?;
-    while !reader.is_empty() {
-        let string = octet_string_of(alloc, reader, 0x04)?;
+    let mut ahead = reader.copy();
+    while !ahead.is_empty() {
+        let string = octet_string_of(alloc, &mut ahead, 0x04)?;
         strings.push(string)?;
     }
     Ok(strings)

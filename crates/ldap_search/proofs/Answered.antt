@@ -4,7 +4,7 @@ use Rattle.std.proofs.KnownBytes.{Appends-nil, Appends-trans}
 use Rattle.std.proofs.lemmas.List.{append-nil}
 use Rattle.std.proofs.lemmas.List.Elements.{All-append, All-cons, All-nil}
 use Rattle.std.specs.Io.KnownBytes.{Appends}
-use Rattle.std.specs.Prelude.{ℕ, ℤ, IfOk}
+use Rattle.std.specs.Prelude.{ℕ, ℤ, IfOk, OnErr}
 use Rattle.entry_tree.specs.Selection.{Search}
 use Rattle.ldap_client.proofs.Given.{given_asked, given_next, given_none}
 use Rattle.ldap_client.specs.Clients.{Asks, ClientState, GivesNext, HasGiven, fresh}
@@ -26,11 +26,12 @@ use Rattle.schema_rules.specs.declared.raw.Change.TheVariants.{Add, Delete, Modi
 use Rattle.schema_rules.specs.declared.raw.RawAttribute.{RawAttribute}
 use Rattle.ldap_search.specs.Printing.{Prints, PrintsLast}
 use Rattle.ldap_search.specs.Requests.{plain_request}
-use Rattle.ldap_search.specs.Steps.{IsPrinted, PrintsNext, PrintsPart}
-use Rattle.ldap_search.specs.Talks.{Answers, AsksPlainly, OutputState, end_by}
+use Rattle.ldap_search.specs.Steps.{IsPrinted, PrintsNext, PrintsPart, StopsPrinting}
+use Rattle.ldap_search.specs.Talks.{Answers, AnswersInPart, AsksPlainly, AsksPlainlyInPart, OutputState, end_by}
 use Rattle.ldap_search.specs.declared.end.SearchEnd.{SearchEnd}
 use Rattle.ldap_search.specs.declared.end.SearchEnd.TheVariants.{Done, NetFault, OutputFault, PeerFault}
-use Rattle.ldap_search.proofs.Reading.{ended_early, prefix_after, read_up_to, reading_fails, refused_early}
+use Rattle.ldap_search.proofs.Reading.{ended_early, prefix_after, read_before, read_so_far, read_up_to, reading_fails, refused_early, sound_ended, sound_refused, still_sound}
+use Rattle.ldap_search.proofs.Writing.{unwritten}
 
 -- the text of one message more
 text_more : (messages : List MessageValue) (whole : MessageValue) → texts_of (messages ++ whole ∷ []) ≡ texts_of messages ++ part_text (part_of whole)
@@ -130,30 +131,40 @@ prints_next client output message (Ok None) client' output' gives part = λ firs
     printed = subst (λ text. Appends start.held output'.held text) (sym (text_more messages (message_value message)))
         (Appends-trans start.held output.held output'.held (texts_of messages) (part_text (part_of (message_value message))) so_far.printed part.1);
     faults = part.2 ∙ so_far.faults;
+    reads = gives.faultless (λ e. let never : ⊥ = cc in never) ∙ so_far.reads;
     writes = gives.reads.write_faults ∙ so_far.writes;
   },
 )
 prints_next client output message (Ok (Some Done)) client' output' gives part = λ first start messages so_far. (
-  message_value message,
-  part.0,
-  part.1,
-  read_up_to first messages (message_value message) client' (given_next first messages client client' message so_far.given gives),
-  Appends-trans start.held output.held output'.held (texts_of messages) (result_text part.0) so_far.printed part.2,
-)
-prints_next client output message (Ok (Some PeerFault)) client' output' gives part = λ first start messages so_far. (
-  inr (
+  (
     message_value message,
     part.0,
+    part.1,
     read_up_to first messages (message_value message) client' (given_next first messages client client' message so_far.given gives),
+    Appends-trans start.held output.held output'.held (texts_of messages) (result_text part.0) so_far.printed part.2,
   ),
-  subst (λ (now : OutputState). Appends start.held now.held (texts_of messages)) (sym part.1) so_far.printed,
+  (still_sound first client client' message (so_far.reads, so_far.writes) gives, part.3 ∙ so_far.faults),
+)
+prints_next client output message (Ok (Some PeerFault)) client' output' gives part = λ first start messages so_far. (
+  (
+    inr (
+      message_value message,
+      part.0,
+      read_up_to first messages (message_value message) client' (given_next first messages client client' message so_far.given gives),
+    ),
+    subst (λ (now : OutputState). Appends start.held now.held (texts_of messages)) (sym part.1) so_far.printed,
+  ),
+  (still_sound first client client' message (so_far.reads, so_far.writes) gives, ap (λ (now : OutputState). now.faults) part.1 ∙ so_far.faults),
 )
 prints_next client output message (Ok (Some OutputFault)) client' output' gives part = λ first start messages so_far. (
-  message_value message,
-  read_up_to first messages (message_value message) client' (given_next first messages client client' message so_far.given gives),
-  subst (λ text. AppendsPrefix start.held output'.held text) (sym (text_more messages (message_value message)))
-      (prefix_after start.held output.held output'.held (texts_of messages) (part_text (part_of (message_value message))) so_far.printed part.0),
-  subst (λ faults. CountHasRisen faults output'.faults) so_far.faults part.1,
+  (
+    message_value message,
+    read_up_to first messages (message_value message) client' (given_next first messages client client' message so_far.given gives),
+    subst (λ text. AppendsPrefix start.held output'.held text) (sym (text_more messages (message_value message)))
+        (prefix_after start.held output.held output'.held (texts_of messages) (part_text (part_of (message_value message))) so_far.printed part.0),
+    subst (λ faults. CountHasRisen faults output'.faults) so_far.faults part.1,
+  ),
+  still_sound first client client' message (so_far.reads, so_far.writes) gives,
 )
 prints_next client output message (Ok (Some NetFault)) client' output' gives part = absurd part
 prints_next client output message (Err fault) client' output' gives part = tt
@@ -161,11 +172,12 @@ prints_next client output message (Err fault) client' output' gives part = tt
 -- no message was given
 pub prints_fault : (E : Type 0) (client : ClientState) (output : OutputState) (fault : ClientFault) (client' : ClientState) → GivesNext client (Err fault) client' → (fault ≡ fault_of.NoMemory → ⊥)
     → PrintsNext {E = E} client output (Ok (Some (end_by fault))) client' output
-prints_fault E client output fault_of.ReadFault client' gives memory = λ first start messages so_far. (reading_fails first messages client client' so_far.given gives, so_far.printed)
+prints_fault E client output fault_of.ReadFault client' gives memory = λ first start messages so_far.
+    ((reading_fails first messages client client' so_far.given gives, so_far.printed), so_far.faults)
 prints_fault E client output (fault_of.PeerMessage place) client' gives memory = λ first start messages so_far.
-    (inl (refused_early first messages client client' place so_far.given gives), so_far.printed)
+    ((inl (refused_early first messages client client' place so_far.given gives), so_far.printed), (sound_refused first client client' place (so_far.reads, so_far.writes) gives, so_far.faults))
 prints_fault E client output fault_of.EndOfInput client' gives memory = λ first start messages so_far.
-    (inl (ended_early first messages client client' so_far.given gives), so_far.printed)
+    ((inl (ended_early first messages client client' so_far.given gives), so_far.printed), (sound_ended first client client' (so_far.reads, so_far.writes) gives, so_far.faults))
 prints_fault E client output fault_of.WriteFault client' gives memory = absurd gives.next
 prints_fault E client output fault_of.NoMemory client' gives memory = absurd (memory refl)
 
@@ -175,6 +187,21 @@ pub prints_end : {E : Type 0} (client : ClientState) (output : OutputState) (fau
 prints_end {E} client output fault (Ok end) client' gives is =
     subst (λ (e : Option SearchEnd). PrintsNext {E = E} client output (Ok e) client' output) (sym is.1) (prints_fault E client output fault client' gives is.0)
 prints_end client output fault (Err memory) client' gives is = tt
+
+-- memory ran out at a message that was given, of which nothing was printed
+pub stops_printing : {E : Type 0} (client : ClientState) (output : OutputState) (message : Message) (result : Result (Option SearchEnd) E) (client' : ClientState) (output' : OutputState)
+    → GivesNext client (Ok message) client' → OnErr result (output' ≡ output) → OnErr result (StopsPrinting client output client' output')
+stops_printing client output message (Ok end) client' output' gives same = tt
+stops_printing client output message (Err fault) client' output' gives same = λ first start messages so_far. (
+  read_before first messages (message_value message) client' (given_next first messages client client' message so_far.given gives),
+  subst (λ (now : OutputState). Appends start.held now.held (texts_of messages)) (sym same) so_far.printed,
+)
+
+-- or before the next was given
+pub stops_reading : {E : Type 0} (client : ClientState) (output : OutputState) (fault : ClientFault) (result : Result (Option SearchEnd) E) (client' : ClientState)
+    → GivesNext client (Err fault) client' → OnErr result (StopsPrinting client output client' output)
+stops_reading client output fault (Ok end) client' gives = tt
+stops_reading client output fault (Err memory) client' gives = λ first start messages so_far. (read_so_far first messages client client' fault so_far.given gives, so_far.printed)
 
 -- the client answers no fault where the search goes on
 pub live_after : {E : Type 0} (result : Result (Option SearchEnd) E) (now : Option ClientFault) → now ≡ None → IfOk result (λ end. end ≡ None → now ≡ None)
@@ -189,25 +216,50 @@ live_not (Err memory) fault now is = tt
 
 -- ---- the request
 
+-- what is printed at first
+plainly_begun : (spec : Search) (old mid : ClientState) (output : OutputState) → old ≡ fresh old.link
+    → Asks (message_octets (plain_request spec)) old (Ok tt) mid → IsPrinted old.link output [] mid output
+plainly_begun spec old mid output begun asks =
+    let octets = message_octets (plain_request spec) in
+    let none : HasGiven old.link [] old = subst (λ c. HasGiven old.link [] c) (sym begun) (given_none old.link) in
+    record {
+      given = given_asked old.link [] octets old mid (Ok tt) none asks;
+      live = asks.fault;
+      parts = All-nil (λ (w : MessageValue). goes_on (part_of w) ≡ true);
+      printed = Appends-nil output.held;
+      faults = refl;
+      reads = asks.read_faults;
+      writes = asks.writes.1;
+    }
+
 -- it was written, and then the answer was printed
 pub plainly_asked : (spec : Search) (old mid : ClientState) (new : LinkState) (output : OutputState) (end : SearchEnd) (output' : OutputState) → old ≡ fresh old.link
     → Asks (message_octets (plain_request spec)) old (Ok tt) mid → new.held ≡ mid.link.held
     → ((first : LinkState) (start : OutputState) (messages : List MessageValue) → IsPrinted first start messages mid output → Answers first new start end output')
     → AsksPlainly spec old.link new output end output'
 plainly_asked spec old mid new output end output' begun asks held answers =
-    let octets = message_octets (plain_request spec) in
-    let none : HasGiven old.link [] old = subst (λ c. HasGiven old.link [] c) (sym begun) (given_none old.link) in
     inl (
-      subst (λ h. Appends old.link.held h octets) (sym held) asks.writes.0,
-      answers old.link output [] (record {
-        given = given_asked old.link [] octets old mid (Ok tt) none asks;
-        live = asks.fault;
-        parts = All-nil (λ (w : MessageValue). goes_on (part_of w) ≡ true);
-        printed = Appends-nil output.held;
-        faults = refl;
-        writes = asks.writes.1;
-      }),
+      subst (λ h. Appends old.link.held h (message_octets (plain_request spec))) (sym held) asks.writes.0,
+      answers old.link output [] (plainly_begun spec old mid output begun asks),
     )
+
+-- after the request is written its answer is printed up to where memory ran out
+pub plainly_in_part : {E : Type 0} (result : Result SearchEnd E) (spec : Search) (old mid : ClientState) (new : LinkState) (output output' : OutputState) → old ≡ fresh old.link
+    → Asks (message_octets (plain_request spec)) old (Ok tt) mid → new.held ≡ mid.link.held
+    → OnErr result ((first : LinkState) (start : OutputState) (messages : List MessageValue) → IsPrinted first start messages mid output → AnswersInPart first new start output')
+    → OnErr result (AsksPlainlyInPart spec old.link new output output')
+plainly_in_part (Ok end) spec old mid new output output' begun asks held answers = tt
+plainly_in_part (Err fault) spec old mid new output output' begun asks held answers =
+    inr (
+      subst (λ h. Appends old.link.held h (message_octets (plain_request spec))) (sym held) asks.writes.0,
+      answers old.link output [] (plainly_begun spec old mid output begun asks),
+    )
+
+-- writing it ran out of memory
+pub plainly_unasked : {E : Type 0} (fault : ClientFault) (result : Result SearchEnd E) (spec : Search) (old new : ClientState) (output : OutputState)
+    → Asks (message_octets (plain_request spec)) old (Err fault) new → OnErr result (fault ≡ fault_of.NoMemory) → OnErr result (AsksPlainlyInPart spec old.link new.link output output)
+plainly_unasked fault (Ok end) spec old new output asks memory = tt
+plainly_unasked fault (Err none) spec old new output asks memory = inl (unwritten (message_octets (plain_request spec)) fault old new asks memory, refl)
 
 -- after the request is written the answer that is printed is that of this search
 pub plainly_asked_ok : {E : Type 0} (result : Result SearchEnd E) (spec : Search) (old mid : ClientState) (new : LinkState) (output output' : OutputState) → old ≡ fresh old.link

@@ -1,6 +1,6 @@
 -- The one link of a search.
-use Rattle.std.proofs.Common.{◌≡◌, ◌<◌, ◌≤◌, ◌+◌, ℕ, true, List, Option, Some, None, Result, Ok, Err, sym, ap, subst, ◌∙◌, arith, inl, inr, length}
-use Rattle.std.specs.Prelude.{IfOk, IfSome, option_map}
+use Rattle.std.proofs.Common.{◌≡◌, ◌≢◌, ◌<◌, ◌≤◌, ◌+◌, ℕ, true, List, Option, Some, None, Result, Ok, Err, refl, sym, ap, subst, ◌∙◌, arith, inl, inr, length}
+use Rattle.std.specs.Prelude.{IfOk, IfSome, OnErr, option_map}
 use Rattle.entry_tree.specs.Selection.{Search}
 use Rattle.ldap_client.specs.Links.{LinkState}
 use Rattle.sync_io.specs.Dial.{Dialled, dials, hangs_up}
@@ -8,11 +8,11 @@ use Rattle.sync_io.specs.Faults.{CountHasRisen, one_more}
 use Rattle.sync_io.specs.Links.{HasNoFaults}
 use Rattle.sync_io.specs.Net.{Served, calls}
 use Rattle.sync_model.specs.Copy.{Copy}
-use Rattle.ldap_search.specs.Calls.{CallsOnce, HangsUp, HungUp, IsNew, Talks}
+use Rattle.ldap_search.specs.Calls.{CallsInPart, CallsOnce, HangsUp, HungUp, HungUpInPart, IsNew, Talks, TalksInPart}
 use Rattle.ldap_search.specs.Copies.{TakenMessage}
-use Rattle.ldap_search.specs.Talks.{EndsFollowing, OutputState}
+use Rattle.ldap_search.specs.Talks.{EndsFollowing, FaultsEnd, IsLinkSound, OutputState}
 use Rattle.ldap_search.specs.declared.end.SearchEnd.{SearchEnd}
-use Rattle.ldap_search.specs.declared.end.SearchEnd.TheVariants.{NetFault, OutputFault}
+use Rattle.ldap_search.specs.declared.end.SearchEnd.TheVariants.{Done, NetFault, OutputFault, PeerFault}
 
 -- ---- faults
 
@@ -45,6 +45,27 @@ link_fails spec None first now old new sound (inl asks) = read_failed first now 
 link_fails spec None first now old new sound (inr fails) = write_failed first now sound fails.2.1
 link_fails spec (Some count) first now old new sound (inl follows) = following_failed spec count first now follows.messages follows.copy old new sound follows.ends
 link_fails spec (Some count) first now old new sound (inr fails) = write_failed first now sound fails.2.1
+
+-- ---- no faults
+
+-- a call fails only where that ends the search
+faults_end : (spec : Search) (count : Option ℕ) (first now : LinkState) (old new : OutputState) (end : SearchEnd) → Talks spec count first now old end new → FaultsEnd first now old end new
+faults_end spec None first now old new end (inl asks) = asks.1.faults
+faults_end spec None first now old new end (inr fails) = subst (λ (e : SearchEnd). FaultsEnd first now old e new) (sym fails.0) (ap (λ (o : OutputState). o.faults) fails.1)
+faults_end spec (Some count) first now old new end (inl follows) = follows.faults
+faults_end spec (Some count) first now old new end (inr fails) = subst (λ (e : SearchEnd). FaultsEnd first now old e new) (sym fails.0) (ap (λ (o : OutputState). o.faults) fails.1)
+
+link_sound : (first now : LinkState) (old new : OutputState) (end : SearchEnd) → FaultsEnd first now old end new → end ≢ NetFault → IsLinkSound first now
+link_sound first now old new Done faults other = faults.0
+link_sound first now old new PeerFault faults other = faults.0
+link_sound first now old new NetFault faults other = absurd (other refl)
+link_sound first now old new OutputFault faults other = faults
+
+output_sound : (first now : LinkState) (old new : OutputState) (end : SearchEnd) → FaultsEnd first now old end new → end ≢ OutputFault → new.faults ≡ old.faults
+output_sound first now old new Done faults other = faults.1
+output_sound first now old new PeerFault faults other = faults.1
+output_sound first now old new NetFault faults other = faults
+output_sound first now old new OutputFault faults other = absurd (other refl)
 
 -- ---- the dialler
 
@@ -85,6 +106,37 @@ called state address spec count before mid after faults faults' old new end link
   );
 }
 
+-- nothing was done over it
+pub not_talked : (spec : Search) (count : Option ℕ) (first now : LinkState) (old : OutputState) → now ≡ first → TalksInPart spec count first now old old
+not_talked spec None first now old same = inl (ap (λ (l : LinkState). l.held) same, refl)
+not_talked spec (Some count) first now old same = inl (ap (λ (l : LinkState). l.held) same, refl)
+
+-- what a search did over a link up to where memory ran out, which was hung up then
+pub hung_up_in_part : {L E : Type 0} (state : L → LinkState) (spec : Search) (count : Option ℕ) (result : Result SearchEnd E) (first link : LinkState) (back now : L) (before after : Option (Dialled L))
+    (old new : OutputState) → first ≡ link → back ≡ now → OnErr result (TalksInPart spec count first (state now) old new) → after ≡ option_map (hangs_up back) before
+    → OnErr result (HungUpInPart state spec count link old new before after)
+hung_up_in_part state spec count (Ok end) first link back now before after old new begun same talks hung = tt
+hung_up_in_part state spec count (Err fault) first link back now before after old new begun same talks hung = record {
+  back = back;
+  talks = subst (λ (l : LinkState). TalksInPart spec count l (state back) old new) begun (subst (λ b. TalksInPart spec count first (state b) old new) (sym same) talks);
+  dialled = hung;
+}
+
+-- the same of a dialler that gave it
+pub called_in_part : {L E : Type 0} (state : L → LinkState) (address : List ℕ) (spec : Search) (count : Option ℕ) (result : Result SearchEnd E) (before mid after : Option (Dialled L)) (old new : OutputState)
+    (link : L) → mid ≡ option_map (dials address true) before → IsNew before (state link) → OnErr result (HungUpInPart state spec count (state link) old new mid after)
+    → OnErr result (CallsInPart state address spec count before old after new)
+called_in_part state address spec count (Ok end) before mid after old new link dialled fresh hung = tt
+called_in_part state address spec count (Err fault) before mid after old new link dialled fresh hung = record {
+  came = inr (
+    state link,
+    hung.back,
+    fresh,
+    hung.talks,
+    hung.dialled ∙ ap (λ (d : Option (Dialled _)). option_map (hangs_up hung.back) d) dialled,
+  );
+}
+
 -- a fault of a link without faults before is counted where it is hung up
 pub link_counted : {L : Type 0} (state : L → LinkState) (spec : Search) (count : Option ℕ) (before after : Option (Dialled L)) (faults first faults' : ℕ) (old new : OutputState) (end : SearchEnd) (link : L)
     → HasNoFaults (state link).read_faults (state link).write_faults → faults ≡ first → HungUp state spec count (state link) old end new before faults after faults' → end ≡ NetFault
@@ -99,6 +151,20 @@ pub output_counted : {L : Type 0} (state : L → LinkState) (spec : Search) (cou
     → HungUp state spec count (state link) old end new before faults after faults' → end ≡ OutputFault → CountHasRisen old.faults new.faults
 output_counted state spec count before after faults faults' old new end link hung is =
     output_fails spec count (state link) (state hung.back) old new (subst (λ (e : SearchEnd). Talks spec count (state link) (state hung.back) old e new) is hung.talks)
+
+-- a link without faults is counted as none where it is hung up
+pub link_uncounted : {L : Type 0} (state : L → LinkState) (spec : Search) (count : Option ℕ) (before after : Option (Dialled L)) (faults first faults' : ℕ) (old new : OutputState) (end : SearchEnd) (link : L)
+    → HasNoFaults (state link).read_faults (state link).write_faults → faults ≡ first → HungUp state spec count (state link) old end new before faults after faults' → end ≢ NetFault
+    → faults' ≡ first
+link_uncounted state spec count before after faults first faults' old new end link sound same hung other =
+    let now = link_sound (state link) (state hung.back) old new end (faults_end spec count (state link) (state hung.back) old new end hung.talks) other in
+    hung.hangs_up.sound (omega (arith, now.0, now.1, sound.reads, sound.writes)) ∙ same
+
+-- a search that the output did not end had no fault of it
+pub output_uncounted : {L : Type 0} (state : L → LinkState) (spec : Search) (count : Option ℕ) (before after : Option (Dialled L)) (faults faults' : ℕ) (old new : OutputState) (end : SearchEnd) (link : L)
+    → HungUp state spec count (state link) old end new before faults after faults' → end ≢ OutputFault → new.faults ≡ old.faults
+output_uncounted state spec count before after faults faults' old new end link hung =
+    output_sound (state link) (state hung.back) old new end (faults_end spec count (state link) (state hung.back) old new end hung.talks)
 
 -- ---- the net
 

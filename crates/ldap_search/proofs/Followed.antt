@@ -27,11 +27,11 @@ use Rattle.ldap_search.specs.Answers.{result_text, search_id}
 use Rattle.ldap_search.specs.Copies.{GoesOn, TakenMessage, stored_in, stored_text, taken_text, taken_texts, values_of}
 use Rattle.ldap_search.specs.Requests.{unbind_request}
 use Rattle.ldap_search.specs.Steps.{EndsBy, FollowsNext, IsFollowed, StartsFollowing, StoresOne}
-use Rattle.ldap_search.specs.Talks.{AsksToFollow, EndsEarly, EndsFollowing, IsOver, IsRefusedMessage, OutputState, PrintingFails, asked_octets, end_by, first_consumer, sync_request}
+use Rattle.ldap_search.specs.Talks.{AsksToFollow, EndsEarly, EndsFollowing, FaultsEnd, IsLinkSound, IsOver, IsRefusedMessage, OutputState, PrintingFails, asked_octets, end_by, first_consumer, sync_request}
 use Rattle.ldap_search.specs.declared.end.SearchEnd.{SearchEnd}
 use Rattle.ldap_search.specs.declared.end.SearchEnd.TheVariants.{Done, NetFault, OutputFault, PeerFault}
 use Rattle.ldap_search.proofs.Copying.{count_more, taken_as, takes_more, texts_more, values_more}
-use Rattle.ldap_search.proofs.Reading.{ended_early, prefix_after, read_up_to, reading_fails, refused_early}
+use Rattle.ldap_search.proofs.Reading.{ended_early, prefix_after, read_up_to, reading_fails, refused_early, sound_ended, sound_refused, still_sound}
 
 -- a message came from the link, and the copy took it
 record Took (client : ClientState) (consumer : ConsumerState) (message : Message) (taken : Taken) (mid : ClientState) (consumer' : ConsumerState) : Type 0 where
@@ -52,6 +52,10 @@ module _ {spec : Search} {count : ℕ} {first : LinkState} {start : OutputState}
   written_same : Appends first.held mid.link.held (asked_octets spec false)
   written_same = subst (λ held. Appends first.held held (asked_octets spec false)) (sym held_same) so_far.written
 
+  -- no call of the link failed
+  sound_at : (now : ClientState) → now ≡ mid → IsLinkSound first now.link
+  sound_at now is = subst (λ (c : ClientState). IsLinkSound first c.link) (sym is) (still_sound first client mid message (so_far.reads, so_far.writes) took.gives)
+
   -- the search goes on after it, with this number of cookies wanted, and this was printed
   goes_on : (output' : OutputState) (wanted' : ℕ) → GoesOn taken → Appends output.held output'.held (taken_text (taken_as message taken consumer'.copy)) → output'.faults ≡ output.faults
       → stored_in taken + wanted' ≡ wanted → 0 < wanted'
@@ -66,6 +70,7 @@ module _ {spec : Search} {count : ℕ} {first : LinkState} {start : OutputState}
             (Appends-trans start.held output.held output'.held (taken_texts messages) (taken_text one) so_far.printed printed);
         faults = faults ∙ so_far.faults;
         written = written_same;
+        reads = took.gives.faultless (λ e. let never : ⊥ = cc in never) ∙ so_far.reads;
         writes = took.gives.reads.write_faults ∙ so_far.writes;
         counted = omega (arith, count_more messages one, counted, so_far.counted);
         some = some;
@@ -105,57 +110,64 @@ follows_stored wanted client consumer output message commit mid consumer' (Ok No
           (goes_on so_far message (Stored commit) mid consumer' took output' wanted' tt part.3 part.4 (omega (arith, part.0)) part.1),
     )
 follows_stored wanted client consumer output message commit mid consumer' (Ok (Some OutputFault)) wanted' client' output' took part = λ spec count first start messages so_far.
-    let Ends = λ (c : ClientState). PrintingFails first c.link messages consumer.copy start output' × Appends first.held c.link.held (asked_octets spec false) in
-    subst Ends (sym part.0) (
-      record {
-        message = message;
-        after = consumer'.copy;
-        taken = Stored commit;
-        takes = took.takes;
-        read = read_up_to first (values_of messages) (message_value message) mid (given_with so_far message (Stored commit) mid consumer' took);
-        printed = prefix_after start.held output.held output'.held (taken_texts messages) (stored_text consumer'.copy.held) so_far.printed part.1;
-        failed = subst (λ faults. CountHasRisen faults output'.faults) so_far.faults part.2;
-      },
-      written_same so_far message (Stored commit) mid consumer' took,
+    let Ends = λ (c : ClientState). PrintingFails first c.link messages consumer.copy start output' × Appends first.held c.link.held (asked_octets spec false) in (
+      subst Ends (sym part.0) (
+        record {
+          message = message;
+          after = consumer'.copy;
+          taken = Stored commit;
+          takes = took.takes;
+          read = read_up_to first (values_of messages) (message_value message) mid (given_with so_far message (Stored commit) mid consumer' took);
+          printed = prefix_after start.held output.held output'.held (taken_texts messages) (stored_text consumer'.copy.held) so_far.printed part.1;
+          failed = subst (λ faults. CountHasRisen faults output'.faults) so_far.faults part.2;
+        },
+        written_same so_far message (Stored commit) mid consumer' took,
+      ),
+      sound_at so_far message (Stored commit) mid consumer' took client' part.0,
     )
 follows_stored wanted client consumer output message commit mid consumer' (Ok (Some Done)) wanted' client' output' took part = λ spec count first start messages so_far.
     let asks = part.1 in
     let given = given_asked first (values_of messages ++ message_value message ∷ []) (message_octets unbind_request) mid client' (Ok tt)
     (given_with so_far message (Stored commit) mid consumer' took) asks in
-    inr (
-      record {
-        message = message;
-        after = consumer'.copy;
-        commit = commit;
-        takes = took.takes;
-        last = omega (arith, so_far.counted, part.0);
-        read = read_up_to first (values_of messages) (message_value message) client' given;
-        printed = Appends-trans start.held output.held output'.held (taken_texts messages) (stored_text consumer'.copy.held) so_far.printed part.2;
-      },
-      subst (λ octets. Appends first.held client'.link.held octets) (unbound spec)
-          (Appends-trans first.held mid.link.held client'.link.held (asked_octets spec false) (message_octets unbind_request)
-          (written_same so_far message (Stored commit) mid consumer' took) asks.writes.0),
+    let sound = sound_at so_far message (Stored commit) mid consumer' took mid refl in (
+      inr (
+        record {
+          message = message;
+          after = consumer'.copy;
+          commit = commit;
+          takes = took.takes;
+          last = omega (arith, so_far.counted, part.0);
+          read = read_up_to first (values_of messages) (message_value message) client' given;
+          printed = Appends-trans start.held output.held output'.held (taken_texts messages) (stored_text consumer'.copy.held) so_far.printed part.2;
+        },
+        subst (λ octets. Appends first.held client'.link.held octets) (unbound spec)
+            (Appends-trans first.held mid.link.held client'.link.held (asked_octets spec false) (message_octets unbind_request)
+            (written_same so_far message (Stored commit) mid consumer' took) asks.writes.0),
+      ),
+      ((asks.read_faults ∙ sound.0, asks.writes.1 ∙ sound.1), part.3 ∙ so_far.faults),
     )
 follows_stored wanted client consumer output message commit mid consumer' (Ok (Some NetFault)) wanted' client' output' took part = λ spec count first start messages so_far.
     let asks = part.1 in
     let given = given_asked first (values_of messages ++ message_value message ∷ []) (message_octets unbind_request) mid client' (Err fault_of.WriteFault)
-    (given_with so_far message (Stored commit) mid consumer' took) asks in
-    inr (
-      record {
-        message = message;
-        after = consumer'.copy;
-        commit = commit;
-        takes = took.takes;
-        last = omega (arith, so_far.counted, part.0);
-        read = read_up_to first (values_of messages) (message_value message) client' given;
-        printed = Appends-trans start.held output.held output'.held (taken_texts messages) (stored_text consumer'.copy.held) so_far.printed part.2;
-      },
-      (
-        subst (λ octets. AppendsPrefix first.held client'.link.held octets) (unbound spec)
-            (prefix_after first.held mid.link.held client'.link.held (asked_octets spec false) (message_octets unbind_request)
-            (written_same so_far message (Stored commit) mid consumer' took) asks.writes.0),
-        subst (λ faults. CountHasRisen faults client'.link.write_faults) (took.gives.reads.write_faults ∙ so_far.writes) asks.writes.1,
+    (given_with so_far message (Stored commit) mid consumer' took) asks in (
+      inr (
+        record {
+          message = message;
+          after = consumer'.copy;
+          commit = commit;
+          takes = took.takes;
+          last = omega (arith, so_far.counted, part.0);
+          read = read_up_to first (values_of messages) (message_value message) client' given;
+          printed = Appends-trans start.held output.held output'.held (taken_texts messages) (stored_text consumer'.copy.held) so_far.printed part.2;
+        },
+        (
+          subst (λ octets. AppendsPrefix first.held client'.link.held octets) (unbound spec)
+              (prefix_after first.held mid.link.held client'.link.held (asked_octets spec false) (message_octets unbind_request)
+              (written_same so_far message (Stored commit) mid consumer' took) asks.writes.0),
+          subst (λ faults. CountHasRisen faults client'.link.write_faults) (took.gives.reads.write_faults ∙ so_far.writes) asks.writes.1,
+        ),
       ),
+      part.3 ∙ so_far.faults,
     )
 follows_stored wanted client consumer output message commit mid consumer' (Ok (Some PeerFault)) wanted' client' output' took part = absurd part.1
 follows_stored wanted client consumer output message commit mid consumer' (Err fault) wanted' client' output' took part = tt
@@ -167,31 +179,35 @@ follows_over : {E : Type 0} (wanted : ℕ) (client : ClientState) (consumer : Co
     → FollowsNext wanted client consumer output result wanted' client' consumer' output'
 follows_over wanted client consumer output message code mid consumer' (Ok None) wanted' client' output' took part = absurd (let wrong : false ≡ true = part.1.1 in cc)
 follows_over wanted client consumer output message code mid consumer' (Ok (Some Done)) wanted' client' output' took part = λ spec count first start messages so_far.
-    let Ends = λ (c : ClientState). IsOver first c.link messages consumer.copy start output' × Appends first.held c.link.held (asked_octets spec false) in
-    inl (subst Ends (sym part.0) (
-      record {
-        message = message;
-        after = consumer'.copy;
-        code = code;
-        takes = took.takes;
-        read = read_up_to first (values_of messages) (message_value message) mid (given_with so_far message (Over code) mid consumer' took);
-        printed = Appends-trans start.held output.held output'.held (taken_texts messages) (result_text code) so_far.printed part.1.0.0;
-      },
-      written_same so_far message (Over code) mid consumer' took,
-    ))
+    let Ends = λ (c : ClientState). IsOver first c.link messages consumer.copy start output' × Appends first.held c.link.held (asked_octets spec false) in (
+      inl (subst Ends (sym part.0) (
+        record {
+          message = message;
+          after = consumer'.copy;
+          code = code;
+          takes = took.takes;
+          read = read_up_to first (values_of messages) (message_value message) mid (given_with so_far message (Over code) mid consumer' took);
+          printed = Appends-trans start.held output.held output'.held (taken_texts messages) (result_text code) so_far.printed part.1.0.0;
+        },
+        written_same so_far message (Over code) mid consumer' took,
+      )),
+      (sound_at so_far message (Over code) mid consumer' took client' part.0, part.1.0.1 ∙ so_far.faults),
+    )
 follows_over wanted client consumer output message code mid consumer' (Ok (Some OutputFault)) wanted' client' output' took part = λ spec count first start messages so_far.
-    let Ends = λ (c : ClientState). PrintingFails first c.link messages consumer.copy start output' × Appends first.held c.link.held (asked_octets spec false) in
-    subst Ends (sym part.0) (
-      record {
-        message = message;
-        after = consumer'.copy;
-        taken = Over code;
-        takes = took.takes;
-        read = read_up_to first (values_of messages) (message_value message) mid (given_with so_far message (Over code) mid consumer' took);
-        printed = prefix_after start.held output.held output'.held (taken_texts messages) (result_text code) so_far.printed part.1.0.0;
-        failed = subst (λ faults. CountHasRisen faults output'.faults) so_far.faults part.1.0.1;
-      },
-      written_same so_far message (Over code) mid consumer' took,
+    let Ends = λ (c : ClientState). PrintingFails first c.link messages consumer.copy start output' × Appends first.held c.link.held (asked_octets spec false) in (
+      subst Ends (sym part.0) (
+        record {
+          message = message;
+          after = consumer'.copy;
+          taken = Over code;
+          takes = took.takes;
+          read = read_up_to first (values_of messages) (message_value message) mid (given_with so_far message (Over code) mid consumer' took);
+          printed = prefix_after start.held output.held output'.held (taken_texts messages) (result_text code) so_far.printed part.1.0.0;
+          failed = subst (λ faults. CountHasRisen faults output'.faults) so_far.faults part.1.0.1;
+        },
+        written_same so_far message (Over code) mid consumer' took,
+      ),
+      sound_at so_far message (Over code) mid consumer' took client' part.0,
     )
 follows_over wanted client consumer output message code mid consumer' (Ok (Some NetFault)) wanted' client' output' took part = absurd part.1.0
 follows_over wanted client consumer output message code mid consumer' (Ok (Some PeerFault)) wanted' client' output' took part = absurd part.1.0
@@ -204,18 +220,20 @@ follows_refused : {E : Type 0} (wanted : ℕ) (client : ClientState) (consumer :
     → FollowsNext wanted client consumer output result wanted' client' consumer' output'
 follows_refused wanted client consumer output message found mid consumer' (Ok (Some PeerFault)) wanted' client' output' took part = λ spec count first start messages so_far.
     let Ends = λ (c : ClientState) (o : OutputState). (EndsEarly first c.link (values_of messages) ⊎ IsRefusedMessage first c.link messages consumer.copy)
-    × Appends start.held o.held (taken_texts messages) × Appends first.held c.link.held (asked_octets spec false) in
-    subst (λ c. Ends c output') (sym part.0) (subst (λ o. Ends mid o) (sym part.1) (
-      inr (
-        message,
-        consumer'.copy,
-        found,
-        took.takes,
-        read_up_to first (values_of messages) (message_value message) mid (given_with so_far message (Fault found) mid consumer' took),
-      ),
-      so_far.printed,
-      written_same so_far message (Fault found) mid consumer' took,
-    ))
+    × Appends start.held o.held (taken_texts messages) × Appends first.held c.link.held (asked_octets spec false) in (
+      subst (λ c. Ends c output') (sym part.0) (subst (λ o. Ends mid o) (sym part.1) (
+        inr (
+          message,
+          consumer'.copy,
+          found,
+          took.takes,
+          read_up_to first (values_of messages) (message_value message) mid (given_with so_far message (Fault found) mid consumer' took),
+        ),
+        so_far.printed,
+        written_same so_far message (Fault found) mid consumer' took,
+      )),
+      (sound_at so_far message (Fault found) mid consumer' took client' part.0, ap (λ (o : OutputState). o.faults) part.1 ∙ so_far.faults),
+    )
 follows_refused wanted client consumer output message found mid consumer' (Ok None) wanted' client' output' took part = absurd (let wrong : None ≡ Some PeerFault = part.2 in cc)
 follows_refused wanted client consumer output message found mid consumer' (Ok (Some Done)) wanted' client' output' took part = absurd (let wrong : Some Done ≡ Some PeerFault = part.2 in cc)
 follows_refused wanted client consumer output message found mid consumer' (Ok (Some OutputFault)) wanted' client' output' took part =
@@ -253,11 +271,15 @@ follows_next wanted client consumer output message NoMemory mid consumer' result
 pub follows_fault : (E : Type 0) (wanted : ℕ) (client : ClientState) (consumer : ConsumerState) (output : OutputState) (fault : ClientFault) (client' : ClientState) → GivesNext client (Err fault) client'
     → (fault ≡ fault_of.NoMemory → ⊥) → FollowsNext {E = E} wanted client consumer output (Ok (Some (end_by fault))) wanted client' consumer output
 follows_fault E wanted client consumer output fault_of.ReadFault client' gives memory = λ spec count first start messages so_far.
-    inl (reading_fails first (values_of messages) client client' so_far.given gives, so_far.printed, subst (λ held. Appends first.held held (asked_octets spec false)) (sym gives.reads.held) so_far.written)
-follows_fault E wanted client consumer output (fault_of.PeerMessage place) client' gives memory = λ spec count first start messages so_far.
-    (inl (refused_early first (values_of messages) client client' place so_far.given gives), so_far.printed, subst (λ held. Appends first.held held (asked_octets spec false)) (sym gives.reads.held) so_far.written)
-follows_fault E wanted client consumer output fault_of.EndOfInput client' gives memory = λ spec count first start messages so_far.
-    (inl (ended_early first (values_of messages) client client' so_far.given gives), so_far.printed, subst (λ held. Appends first.held held (asked_octets spec false)) (sym gives.reads.held) so_far.written)
+    (inl (reading_fails first (values_of messages) client client' so_far.given gives, so_far.printed, subst (λ held. Appends first.held held (asked_octets spec false)) (sym gives.reads.held) so_far.written), so_far.faults)
+follows_fault E wanted client consumer output (fault_of.PeerMessage place) client' gives memory = λ spec count first start messages so_far. (
+  (inl (refused_early first (values_of messages) client client' place so_far.given gives), so_far.printed, subst (λ held. Appends first.held held (asked_octets spec false)) (sym gives.reads.held) so_far.written),
+  (sound_refused first client client' place (so_far.reads, so_far.writes) gives, so_far.faults),
+)
+follows_fault E wanted client consumer output fault_of.EndOfInput client' gives memory = λ spec count first start messages so_far. (
+  (inl (ended_early first (values_of messages) client client' so_far.given gives), so_far.printed, subst (λ held. Appends first.held held (asked_octets spec false)) (sym gives.reads.held) so_far.written),
+  (sound_ended first client client' (so_far.reads, so_far.writes) gives, so_far.faults),
+)
 follows_fault E wanted client consumer output fault_of.WriteFault client' gives memory = absurd gives.next
 follows_fault E wanted client consumer output fault_of.NoMemory client' gives memory = absurd (memory refl)
 
@@ -288,6 +310,7 @@ begins_following spec count old mid output made consumer some new is written sam
       takes = ap (λ (c : ConsumerState). c.copy) same ∙ ap (λ (m : ConsumerState). asked search_id true m.copy) is;
       printed = Appends-nil output.held;
       faults = refl;
+      reads = asks.read_faults;
       written = subst (λ (all : List ℕ). Appends old.link.held mid.link.held all) (sym (append-nil octets)) asks.writes.0;
       writes = asks.writes.1;
       counted = omega arith;
@@ -313,13 +336,14 @@ start_ends E spec count old new output made consumer PeerFault is starts = absur
 -- it ended
 pub follows_to_end : (spec : Search) (count : ℕ) (first : LinkState) (start : OutputState) (messages : List TakenMessage) (wanted : ℕ) (client : ClientState) (consumer : ConsumerState) (output : OutputState)
     (now : LinkState) (end : SearchEnd) (output' : OutputState) → IsFollowed spec count first start messages wanted client consumer output
-    → EndsFollowing spec count first now messages consumer.copy start end output' → AsksToFollow spec count first now start end output'
+    → EndsFollowing spec count first now messages consumer.copy start end output' × FaultsEnd first now start end output' → AsksToFollow spec count first now start end output'
 follows_to_end spec count first start messages wanted client consumer output now end output' so_far ends = inl (record {
   messages = messages;
   copy = consumer.copy;
   takes = so_far.takes;
   fewer = omega (arith, so_far.counted, so_far.some);
-  ends = ends;
+  ends = ends.0;
+  faults = ends.1;
 })
 
 -- ---- in what the code answers

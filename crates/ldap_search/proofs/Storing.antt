@@ -1,5 +1,6 @@
 -- What comes of a cookie that was stored.
-use Rattle.std.proofs.Common.{◌≡◌, ◌<◌, ◌+◌, ℕ, List, ◌++◌, length, codes, Option, Some, None, Result, Ok, Err, refl, ap, ◌∙◌}
+use Rattle.std.proofs.Common.{◌≡◌, ◌<◌, ◌+◌, ℕ, List, ◌++◌, length, codes, Option, Some, None, Result, Ok, Err, inr, refl, ap, ◌∙◌}
+use Rattle.std.specs.Prelude.{OnErr}
 use Rattle.std.specs.Fmt.{decimal}
 use Rattle.hex.specs.Hex.{encode_lower}
 use Rattle.sha2.specs.Sha256.{sha256}
@@ -9,7 +10,9 @@ use Rattle.ldap_client.specs.Clients.{ClientState}
 use Rattle.sync_model.specs.Copy.{Copy}
 use Rattle.ldap_search.specs.Copies.{stored_text}
 use Rattle.ldap_search.specs.Printing.{Prints, PrintsLast}
-use Rattle.ldap_search.specs.Steps.{StoresOne, Unbinds}
+use Rattle.ldap_messages.specs.Whole.{message_octets}
+use Rattle.ldap_search.specs.Requests.{unbind_request}
+use Rattle.ldap_search.specs.Steps.{IsUnwritten, StopsStoring, StoresOne, Unbinds}
 use Rattle.ldap_search.specs.Talks.{OutputState}
 use Rattle.ldap_search.specs.declared.end.SearchEnd.{SearchEnd}
 use Rattle.ldap_search.specs.declared.end.SearchEnd.TheVariants.{Done, OutputFault, NetFault, PeerFault}
@@ -47,3 +50,10 @@ stores_torn E copy wanted client old new OutputFault unlike prints = (refl, prin
 stores_torn E copy wanted client old new Done unlike prints = absurd (unlike refl)
 stores_torn E copy wanted client old new NetFault unlike prints = absurd prints
 stores_torn E copy wanted client old new PeerFault unlike prints = absurd prints
+
+-- it was the last, and memory ran out at the end of the session
+pub stops_storing : {E : Type 0} (copy : Copy) (wanted : ℕ) (client client' : ClientState) (old new : OutputState) (result : Result (Option SearchEnd) E) → wanted ≡ 1
+    → PrintsLast (stored_text copy.held) old.held old.faults Done new.held new.faults → OnErr result (IsUnwritten (message_octets unbind_request) client client')
+    → OnErr result (StopsStoring copy wanted client old client' new)
+stops_storing copy wanted client client' old new (Ok end) last prints unwritten = tt
+stops_storing copy wanted client client' old new (Err fault) last prints unwritten = inr (last, unwritten, prints.0)

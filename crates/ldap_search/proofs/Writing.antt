@@ -1,6 +1,6 @@
 -- What comes of a message that could not be written.
 use Rattle.std.proofs.Common.{◌≡◌, ◌≤◌, Option, Some, Result, Ok, Err, refl, sym, subst, arith}
-use Rattle.std.specs.Prelude.{IfOk}
+use Rattle.std.specs.Prelude.{ℕ, IfOk, List, OnErr}
 use Rattle.ldap_client.specs.Clients.{Asks, ClientState}
 use Rattle.ldap_client.specs.declared.fault.ClientFault.{ClientFault}
 use Rattle.ldap_client.specs.declared.fault.ClientFault.TheVariants.{ReadFault, WriteFault, PeerMessage, EndOfInput, NoMemory}
@@ -11,7 +11,7 @@ use Rattle.sync_consumer.specs.Taking.{ConsumerState}
 use Rattle.sync_messages.specs.declared.request.Mode.TheVariants.{RefreshAndPersist}
 use Rattle.ldap_search.specs.Answers.{search_id}
 use Rattle.ldap_search.specs.Requests.{unbind_request}
-use Rattle.ldap_search.specs.Steps.{StartsFollowing, Unbinds}
+use Rattle.ldap_search.specs.Steps.{IsUnwritten, StartsFollowing, Unbinds}
 use Rattle.ldap_search.specs.Talks.{end_by}
 use Rattle.ldap_search.specs.declared.end.SearchEnd.{SearchEnd}
 
@@ -19,6 +19,31 @@ use Rattle.ldap_search.specs.declared.end.SearchEnd.{SearchEnd}
 pub asks_same : (whole other : MessageValue) (old new : ClientState) (result : Result Unit ClientFault) → whole ≡ other → Asks (message_octets whole) old result new
     → Asks (message_octets other) old result new
 asks_same whole other old new result is asks = subst (λ (m : MessageValue). Asks (message_octets m) old result new) is asks
+
+-- what holds anyway holds where memory ran out
+pub holds_anyway : {T E P : Type 0} (result : Result T E) → P → OnErr result P
+holds_anyway (Ok value) holds = tt
+holds_anyway (Err fault) holds = holds
+
+-- out of memory nothing was written
+pub unwritten : (octets : List ℕ) (fault : ClientFault) (old new : ClientState) → Asks octets old (Err fault) new → fault ≡ NoMemory → new.link.held ≡ old.link.held
+unwritten octets NoMemory old new asks is = asks.writes.0
+unwritten octets WriteFault old new asks is = absurd (let wrong : WriteFault ≡ NoMemory = is in cc)
+unwritten octets ReadFault old new asks is = absurd asks.writes
+unwritten octets (PeerMessage place) old new asks is = absurd asks.writes
+unwritten octets EndOfInput old new asks is = absurd asks.writes
+
+-- so it is of the request of a search that is followed
+pub start_unwritten : {E : Type 0} (octets : List ℕ) (fault : ClientFault) (result : Result (Option SearchEnd) E) (old new : ClientState) → Asks octets old (Err fault) new → OnErr result (fault ≡ NoMemory)
+    → OnErr result (new.link.held ≡ old.link.held)
+start_unwritten octets fault (Ok end) old new asks memory = tt
+start_unwritten octets fault (Err none) old new asks memory = unwritten octets fault old new asks memory
+
+-- and of the end of a session
+pub unbind_unwritten : {E : Type 0} (octets : List ℕ) (fault : ClientFault) (result : Result (Option SearchEnd) E) (old new : ClientState) → Asks octets old (Err fault) new → OnErr result (fault ≡ NoMemory)
+    → OnErr result (IsUnwritten octets old new)
+unbind_unwritten octets fault (Ok end) old new asks memory = tt
+unbind_unwritten octets fault (Err none) old new asks memory = subst (λ (f : ClientFault). Asks octets old (Err f) new) memory asks
 
 -- the end of a session
 pub unbind_fails : {E : Type 0} (fault : ClientFault) (result : Result (Option SearchEnd) E) (old new : ClientState) → Asks (message_octets unbind_request) old (Err fault) new

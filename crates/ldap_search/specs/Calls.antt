@@ -5,8 +5,9 @@ use Rattle.sync_io.specs.Dial.{Dialled, dials, hangs_up}
 use Rattle.sync_io.specs.Faults.{one_more}
 use Rattle.sync_io.specs.Links.{HasNoFaults, IsUnused}
 use Rattle.sync_io.specs.Net.{Served, calls, retires}
+use Rattle.sync_io.specs.ToCome.{IsNextToCome}
 use Rattle.ldap_client.specs.Links.{LinkState}
-use Rattle.ldap_search.specs.Talks.{AsksPlainly, AsksToFollow, OutputState}
+use Rattle.ldap_search.specs.Talks.{AsksPlainly, AsksPlainlyInPart, AsksToFollow, AsksToFollowInPart, OutputState}
 use Rattle.ldap_search.specs.declared.end.SearchEnd.{SearchEnd}
 use Rattle.ldap_search.specs.declared.end.SearchEnd.TheVariants.{NetFault}
 
@@ -54,8 +55,8 @@ pub record CallsOnce {L : Type 0}
       × Talks spec count first (seen link) old end new
       × (after ≡ option_map (hangs_up link) (option_map (dials address true) before)))
 
--- a net was asked for a caller: none came; or one came, which was asked for a link once, and was
--- retired
+-- a net was asked for a caller: none came; or the next one came, which was asked for a link once,
+-- and was retired
 pub record Searches {L C M : Type 0}
     (seen : M → LinkState) (dialled : C → Option (Dialled M))
     (address : List ℕ) (spec : Search) (count : Option ℕ)
@@ -64,5 +65,47 @@ pub record Searches {L C M : Type 0}
   pub came :
       ((end ≡ NetFault) × (new ≡ old) × (after ≡ option_map (calls false) before))
       ⊎ ((first : Option (Dialled M)) × (caller : C)
+      × IfSome before (λ s. IsNextToCome first s.callers_to_come)
       × CallsOnce seen address spec count first old end (dialled caller) new
+      × (after ≡ option_map (retires caller) (option_map (calls true) before)))
+
+-- ---- out of memory
+
+-- what is done over the link of a search up to where memory ran out
+abbrev pub TalksInPart : Search → (count : Option ℕ) → (first now : LinkState)
+    → (old new : OutputState) → Type 0
+TalksInPart spec None first now old new = AsksPlainlyInPart spec first now old new
+TalksInPart spec (Some count) first now old new = AsksToFollowInPart spec count first now old new
+
+-- this was done over a link, which was hung up
+pub record HungUpInPart {L : Type 0}
+    (state : L → LinkState) (spec : Search) (count : Option ℕ) (first : LinkState)
+    (old new : OutputState) (before after : Option (Dialled L)) : Type 0 where
+  pub back : L
+  pub talks : TalksInPart spec count first (state back) old new
+  pub dialled : after ≡ option_map (hangs_up back) before
+
+-- a dialler was not asked for a link; or one came, over which this was done, and was hung up
+pub record CallsInPart {L : Type 0}
+    (seen : L → LinkState) (address : List ℕ) (spec : Search) (count : Option ℕ)
+    (before : Option (Dialled L)) (old : OutputState)
+    (after : Option (Dialled L)) (new : OutputState) : Type 0 where
+  pub came :
+      ((new ≡ old) × (after ≡ before))
+      ⊎ ((first : LinkState) × (link : L) × IsNew before first
+      × TalksInPart spec count first (seen link) old new
+      × (after ≡ option_map (hangs_up link) (option_map (dials address true) before)))
+
+-- a net was asked for a caller: none came; or the next one came, which was asked for one link at
+-- most, and was retired
+pub record SearchesInPart {L C M : Type 0}
+    (seen : M → LinkState) (dialled : C → Option (Dialled M))
+    (address : List ℕ) (spec : Search) (count : Option ℕ)
+    (before : Option (Served L C M)) (old : OutputState)
+    (after : Option (Served L C M)) (new : OutputState) : Type 0 where
+  pub came :
+      ((new ≡ old) × (after ≡ option_map (calls false) before))
+      ⊎ ((first : Option (Dialled M)) × (caller : C)
+      × IfSome before (λ s. IsNextToCome first s.callers_to_come)
+      × CallsInPart seen address spec count first old (dialled caller) new
       × (after ≡ option_map (retires caller) (option_map (calls true) before)))

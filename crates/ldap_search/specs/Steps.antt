@@ -1,13 +1,15 @@
 -- What is read and printed step by step, whatever came before.
-use Rattle.std.specs.Prelude.{◌≡◌, ◌<◌, ◌+◌, ℕ, ℤ, List, [], ◌∷◌, ◌++◌, Option, Some, None, Result, Ok, Err, IfOk, IfSome, is_some, false, true}
+use Rattle.std.specs.Prelude.{◌≡◌, ◌⊎◌, ◌<◌, ◌+◌, ℕ, ℤ, List, [], ◌∷◌, ◌++◌, Option, Some, None, Result, Ok, Err, IfOk, IfSome, is_some, false, true}
 use Rattle.std.specs.Io.KnownBytes.{Appends}
 use Rattle.entry_tree.specs.Selection.{Search}
 use Rattle.ldap_client.specs.Clients.{Asks, ClientState, HasGiven}
 use Rattle.ldap_client.specs.declared.fault.ClientFault.TheVariants.{WriteFault}
+use Rattle.ldap_client.specs.declared.fault.ClientFault.TheVariants as client_fault
 use Rattle.ldap_client.specs.Links.{LinkState}
 use Rattle.ldap_messages.specs.Whole.{MessageValue, message_octets}
 use Rattle.sync_consumer.specs.Taking.{ConsumerState}
 use Rattle.sync_consumer.specs.Taking as taking
+use Rattle.sync_consumer.specs.declared.commit.Commit.{Commit}
 use Rattle.sync_consumer.specs.declared.consumer.Taken.{Taken}
 use Rattle.sync_consumer.specs.declared.consumer.Taken.TheVariants.{Staged, Stored, Copied, Over, Fault, NoMemory}
 use Rattle.sync_messages.specs.declared.request.Mode.TheVariants.{RefreshAndPersist}
@@ -18,7 +20,7 @@ use Rattle.ldap_search.specs.Answers.{AnswerPart, AreParts, End, Stray, goes_on,
 use Rattle.ldap_search.specs.Copies.{TakenMessage, TakesAll, stored_count, stored_text, taken_texts, values_of}
 use Rattle.ldap_search.specs.Printing.{PrintsLast}
 use Rattle.ldap_search.specs.Requests.{unbind_request}
-use Rattle.ldap_search.specs.Talks.{EndsAnswer, EndsFollowing, OutputState, asked_octets, begun}
+use Rattle.ldap_search.specs.Talks.{EndsAnswer, EndsFollowing, FaultsEnd, HasReadAtLeast, OutputState, StopsAfter, asked_octets, begun}
 use Rattle.ldap_search.specs.declared.end.SearchEnd.{SearchEnd}
 use Rattle.ldap_search.specs.declared.end.SearchEnd.TheVariants.{Done, OutputFault, NetFault, PeerFault}
 
@@ -49,6 +51,7 @@ pub record IsPrinted
   pub parts : AreParts messages
   pub printed : Appends start.held output.held (texts_of messages)
   pub faults : output.faults ≡ start.faults
+  pub reads : client.link.read_faults ≡ first.read_faults
   pub writes : client.link.write_faults ≡ first.write_faults
 
 -- one message more was given and printed, or the answer ended
@@ -63,7 +66,16 @@ PrintsNext client output (Ok (Some end)) client' output' =
     (first : LinkState) (start : OutputState) (messages : List MessageValue)
     → IsPrinted first start messages client output
     → EndsAnswer first client'.link messages start end output'
+    × FaultsEnd first client'.link start end output'
 PrintsNext client output (Err fault) client' output' = Unit {0}
+
+-- memory ran out at the next part, of which nothing was printed
+abbrev pub StopsPrinting : ClientState → OutputState → ClientState → OutputState → Type 0
+StopsPrinting client output client' output' =
+    (first : LinkState) (start : OutputState) (messages : List MessageValue)
+    → IsPrinted first start messages client output
+    → HasReadAtLeast first client'.link messages
+    × Appends start.held output'.held (texts_of messages)
 
 -- ---- a copy
 
@@ -79,6 +91,7 @@ pub record IsFollowed
   pub printed : Appends start.held output.held (taken_texts messages)
   pub faults : output.faults ≡ start.faults
   pub written : Appends first.held client.link.held (asked_octets spec false)
+  pub reads : client.link.read_faults ≡ first.read_faults
   pub writes : client.link.write_faults ≡ first.write_faults
   pub counted : stored_count messages + wanted ≡ count
   pub some : 0 < wanted
@@ -98,6 +111,7 @@ FollowsNext wanted client consumer output (Ok (Some end)) wanted' client' consum
     (messages : List TakenMessage)
     → IsFollowed spec count first start messages wanted client consumer output
     → EndsFollowing spec count first client'.link messages consumer.copy start end output'
+    × FaultsEnd first client'.link start end output'
 FollowsNext wanted client consumer output (Err fault) wanted' client' consumer' output' = Unit {0}
 
 -- a consumer asked for its search over a link on which nothing was said, or the link failed
@@ -160,3 +174,36 @@ EndsBy (Fault found) copy wanted client output result wanted' client' output' =
     (client' ≡ client) × (output' ≡ output) × IfOk result (λ end. end ≡ Some PeerFault)
 EndsBy NoMemory copy wanted client output result wanted' client' output' =
     IfOk result (λ end. ⊥)
+
+-- ---- out of memory
+
+-- memory ran out, and nothing of these octets was written
+abbrev pub IsUnwritten : List ℕ → ClientState → ClientState → Type 0
+IsUnwritten octets client client' = Asks octets client (Err client_fault.NoMemory) client'
+
+-- memory ran out before the line of a stored cookie was printed; or that of the last one that is
+-- wanted was printed, and the session was not ended
+abbrev pub StopsStoring : model.Copy → (wanted : ℕ) → ClientState → OutputState → ClientState
+    → OutputState → Type 0
+StopsStoring copy wanted client output client' output' =
+    ((client' ≡ client) × (output' ≡ output))
+    ⊎ ((wanted ≡ 1) × IsUnwritten (message_octets unbind_request) client client'
+    × Appends output.held output'.held (stored_text copy.held))
+
+-- memory ran out after a message was taken: nothing came of it; or it stored a cookie
+abbrev pub StopsBy : Taken → model.Copy → (wanted : ℕ) → ClientState → OutputState → ClientState
+    → OutputState → Type 0
+StopsBy taken copy wanted client output client' output' =
+    ((client' ≡ client) × (output' ≡ output))
+    ⊎ ((commit : Commit) × (taken ≡ Stored commit)
+    × StopsStoring copy wanted client output client' output')
+
+-- memory ran out at the next message
+abbrev pub StopsFollowing : (wanted : ℕ) → ClientState → ConsumerState → OutputState → ClientState
+    → OutputState → Type 0
+StopsFollowing wanted client consumer output client' output' =
+    (spec : Search) (count : ℕ) (first : LinkState) (start : OutputState)
+    (messages : List TakenMessage)
+    → IsFollowed spec count first start messages wanted client consumer output
+    → Appends first.held client'.link.held (asked_octets spec false)
+    × StopsAfter count first client'.link messages consumer.copy start output'

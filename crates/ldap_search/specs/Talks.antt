@@ -66,6 +66,27 @@ HasReadUpTo first now messages whole =
     (later : List Incoming)
     × HasRead first now (map Arrived messages ++ Arrived whole ∷ later)
 
+-- these messages came, and perhaps more
+abbrev pub HasReadAtLeast : (first now : LinkState) → List MessageValue → Type 0
+HasReadAtLeast first now messages =
+    (later : List Incoming) × HasRead first now (map Arrived messages ++ later)
+
+-- nothing was written, and nothing printed
+abbrev pub IsUnasked : (first now : LinkState) → (old new : OutputState) → Type 0
+IsUnasked first now old new = (now.held ≡ first.held) × (new ≡ old)
+
+-- no call of the link has failed since
+abbrev pub IsLinkSound : (first now : LinkState) → Type 0
+IsLinkSound first now =
+    (now.read_faults ≡ first.read_faults) × (now.write_faults ≡ first.write_faults)
+
+-- a call of the link or of the output fails only where that ends the search
+abbrev pub FaultsEnd : (first now : LinkState) → OutputState → SearchEnd → OutputState → Type 0
+FaultsEnd first now old Done new = IsLinkSound first now × (new.faults ≡ old.faults)
+FaultsEnd first now old PeerFault new = IsLinkSound first now × (new.faults ≡ old.faults)
+FaultsEnd first now old NetFault new = new.faults ≡ old.faults
+FaultsEnd first now old OutputFault new = IsLinkSound first now
+
 -- ---- without a count
 
 -- its end was printed; or what came is no part of an answer, or came to an end; or a read failed; or
@@ -95,6 +116,7 @@ pub record Answers
   pub messages : List MessageValue
   pub parts : AreParts messages
   pub ends : EndsAnswer first now messages old end new
+  pub faults : FaultsEnd first now old end new
 
 -- the request was written, and its answer was printed; or writing it failed
 abbrev pub AsksPlainly : Search → (first now : LinkState) → OutputState → SearchEnd → OutputState
@@ -104,6 +126,21 @@ AsksPlainly spec first now old end new =
     × Answers first now old end new)
     ⊎ ((end ≡ NetFault) × (new ≡ old)
     × WritingFails first now (message_octets (plain_request spec)))
+
+-- Where memory ran out: entries and references came, and perhaps more, and what they say was
+-- printed.
+pub record AnswersInPart (first now : LinkState) (old new : OutputState) : Type 0 where
+  pub messages : List MessageValue
+  pub parts : AreParts messages
+  pub read : HasReadAtLeast first now messages
+  pub printed : Appends old.held new.held (texts_of messages)
+
+-- the search was not asked; or the request was written, and its answer was printed in part
+abbrev pub AsksPlainlyInPart : Search → (first now : LinkState) → (old new : OutputState) → Type 0
+AsksPlainlyInPart spec first now old new =
+    IsUnasked first now old new
+    ⊎ (Appends first.held now.held (message_octets (plain_request spec))
+    × AnswersInPart first now old new)
 
 -- ---- with a count
 
@@ -208,6 +245,7 @@ pub record Follows
   pub takes : TakesAll begun messages copy
   pub fewer : stored_count messages < count
   pub ends : EndsFollowing spec count first now messages copy old end new
+  pub faults : FaultsEnd first now old end new
 
 -- the request was written, and the search followed; or writing it failed
 abbrev pub AsksToFollow : Search → (count : ℕ) → (first now : LinkState) → OutputState
@@ -215,3 +253,29 @@ abbrev pub AsksToFollow : Search → (count : ℕ) → (first now : LinkState) �
 AsksToFollow spec count first now old end new =
     Follows spec count first now old end new
     ⊎ ((end ≡ NetFault) × (new ≡ old) × WritingFails first now (asked_octets spec false))
+
+-- Where memory ran out: of the messages that came perhaps more than these, nothing was printed; or
+-- the next one stored the last of the cookies that were wanted, and its line was printed.
+abbrev pub StopsAfter : (count : ℕ) → (first now : LinkState) → List TakenMessage → model.Copy
+    → (old new : OutputState) → Type 0
+StopsAfter count first now messages copy old new =
+    (HasReadAtLeast first now (values_of messages)
+    × Appends old.held new.held (taken_texts messages))
+    ⊎ StoresLast count first now messages copy old new
+
+-- a copy took messages that came, one after another, and a line was printed for each cookie that it
+-- stored, fewer than are wanted; and then memory ran out, before the session was ended
+pub record FollowsInPart
+    (spec : Search) (count : ℕ) (first now : LinkState) (old new : OutputState) : Type 0 where
+  pub messages : List TakenMessage
+  pub copy : model.Copy
+  pub takes : TakesAll begun messages copy
+  pub fewer : stored_count messages < count
+  pub written : Appends first.held now.held (asked_octets spec false)
+  pub stops : StopsAfter count first now messages copy old new
+
+-- the search was not asked; or the request was written, and it was followed in part
+abbrev pub AsksToFollowInPart : Search → (count : ℕ) → (first now : LinkState)
+    → (old new : OutputState) → Type 0
+AsksToFollowInPart spec count first now old new =
+    IsUnasked first now old new ⊎ FollowsInPart spec count first now old new

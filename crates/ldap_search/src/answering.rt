@@ -1,6 +1,6 @@
 //! The answer to a search, printed as it comes.
 
-ghost use Rattle.std.specs.Prelude.{◌≡◌, ◌≢◌, ◌≤◌, List, None, Some, IfOk};
+ghost use Rattle.std.specs.Prelude.{◌≡◌, ◌≢◌, ◌≤◌, List, None, Some, IfOk, OnErr};
 ghost use Rattle.entry_tree.specs.Selection.{search_of};
 ghost use Rattle.ldap_client.specs.Clients.{client_by, fresh};
 ghost use Rattle.ldap_client.specs.Links.{LinkState, link_by};
@@ -9,8 +9,16 @@ ghost use Rattle.ldap_messages.specs.Operation.{operation_of};
 ghost use Rattle.ldap_messages.specs.Whole.{MessageValue, message_value};
 ghost use Rattle.ldap_search.specs.Answers.{part_of, part_of_operation};
 ghost use Rattle.ldap_search.specs.Printing.{Prints};
-ghost use Rattle.ldap_search.specs.Steps.{IsPrinted, PrintsNext, PrintsPart};
-ghost use Rattle.ldap_search.specs.Talks.{Answers, AsksPlainly, OutputState, end_by, output_by};
+ghost use Rattle.ldap_search.specs.Steps.{IsPrinted, PrintsNext, PrintsPart, StopsPrinting};
+ghost use Rattle.ldap_search.specs.Talks.{
+  Answers,
+  AnswersInPart,
+  AsksPlainly,
+  AsksPlainlyInPart,
+  OutputState,
+  end_by,
+  output_by,
+};
 ghost use Rattle.ldif_text.specs.Received.{received_text};
 
 use crate::SearchEnd;
@@ -39,11 +47,16 @@ pub(crate) fn ask_plainly<R: Wait, L: Link, O: Sink>(
     requires fresh { let state = link_by L.bytes_left L.bytes_read L.bytes_held
         L.read_fault_count L.write_fault_count in
         client_by state client.old ≡ fresh (client_by state client.old).link }
-    ensures { let state = link_by L.bytes_left L.bytes_read L.bytes_held
+    ensures asks { let state = link_by L.bytes_left L.bytes_read L.bytes_held
         L.read_fault_count L.write_fault_count in
         let shown = output_by O.bytes_held O.write_fault_count in
         IfOk result (λ end. AsksPlainly (search_of spec.now) (client_by state client.old).link
         (client_by state client.new).link (shown output.old) end (shown output.new)) }
+    ensures in_part { let state = link_by L.bytes_left L.bytes_read L.bytes_held
+        L.read_fault_count L.write_fault_count in
+        let shown = output_by O.bytes_held O.write_fault_count in
+        OnErr result (AsksPlainlyInPart (search_of spec.now) (client_by state client.old).link
+        (client_by state client.new).link (shown output.old) (shown output.new)) }
 {
     let Ok(request) = plain_request(alloc, spec) else {
         return Err(AllocError);
@@ -70,6 +83,13 @@ fn print_answer<R: Wait, L: Link, O: Sink>(
         IfOk result (λ end. (first : LinkState) (start : OutputState) (messages : List
         MessageValue) → IsPrinted first start messages (client_by state client.old) (shown
         output.old) → Answers first (client_by state client.new).link start end (shown
+        output.new)) }
+    ensures in_part { let state = link_by L.bytes_left L.bytes_read L.bytes_held
+        L.read_fault_count L.write_fault_count in
+        let shown = output_by O.bytes_held O.write_fault_count in
+        OnErr result ((first : LinkState) (start : OutputState) (messages : List
+        MessageValue) → IsPrinted first start messages (client_by state client.old) (shown
+        output.old) → AnswersInPart first (client_by state client.new).link start (shown
         output.new)) }
     ensures held { let state = link_by L.bytes_left L.bytes_read L.bytes_held
         L.read_fault_count L.write_fault_count in
@@ -100,6 +120,11 @@ fn print_next<R: Wait, L: Link, O: Sink>(
         let shown = output_by O.bytes_held O.write_fault_count in
         PrintsNext (client_by state client.old) (shown output.old) result (client_by state
         client.new) (shown output.new) }
+    ensures in_part { let state = link_by L.bytes_left L.bytes_read L.bytes_held
+        L.read_fault_count L.write_fault_count in
+        let shown = output_by O.bytes_held O.write_fault_count in
+        OnErr result (StopsPrinting (client_by state client.old) (shown output.old)
+        (client_by state client.new) (shown output.new)) }
     ensures live { let state = link_by L.bytes_left L.bytes_read L.bytes_held
         L.read_fault_count L.write_fault_count in
         IfOk result (λ end. end ≡ None → (client_by state client.new).fault ≡ None) }
@@ -123,9 +148,10 @@ fn print_part<O: Sink>(
     message: &Message,
     output: &mut O,
 ) -> Result<Option<SearchEnd>, NoMemory>
-    ensures { let shown = output_by O.bytes_held O.write_fault_count in
+    ensures prints { let shown = output_by O.bytes_held O.write_fault_count in
         PrintsPart (part_of (message_value message.now)) (shown output.old) result
         (shown output.new) }
+    ensures unprinted { OnErr result (output.new ≡ output.old) }
 {
     if message.id == SEARCH_ID {
         return print_operation(alloc, &message.op, output);
@@ -139,9 +165,10 @@ fn print_operation<O: Sink>(
     op: &Protocol,
     output: &mut O,
 ) -> Result<Option<SearchEnd>, NoMemory>
-    ensures { let shown = output_by O.bytes_held O.write_fault_count in
+    ensures prints { let shown = output_by O.bytes_held O.write_fault_count in
         PrintsPart (part_of_operation (operation_of op.now)) (shown output.old) result
         (shown output.new) }
+    ensures unprinted { OnErr result (output.new ≡ output.old) }
 {
     match op {
         Protocol::SearchResultEntry { name, attributes } => {
@@ -163,9 +190,10 @@ fn print_entry<O: Sink>(
     attributes: &RawList,
     output: &mut O,
 ) -> Result<Option<SearchEnd>, NoMemory>
-    ensures { IfOk result (λ end. Prints (received_text name.now attributes.now)
+    ensures prints { IfOk result (λ end. Prints (received_text name.now attributes.now)
         (O.bytes_held output.old) (O.write_fault_count output.old) end
         (O.bytes_held output.new) (O.write_fault_count output.new)) }
+    ensures unprinted { OnErr result (output.new ≡ output.old) }
 {
     let text = write_received(alloc, name.as_slice(), attributes.list())?;
     Ok(print(output, &text))
@@ -173,7 +201,8 @@ fn print_entry<O: Sink>(
 
 /// How a search ends by a fault of its client.
 fn last_by(fault: ClientFault) -> Result<SearchEnd, NoMemory>
-    ensures { IfOk result (λ end. (fault ≢ ClientFault.NoMemory) × (end ≡ end_by fault)) }
+    ensures ends { IfOk result (λ end. (fault ≢ ClientFault.NoMemory) × (end ≡ end_by fault)) }
+    ensures memory { OnErr result (fault ≡ ClientFault.NoMemory) }
 {
     match fault {
         ClientFault::ReadFault | ClientFault::WriteFault => Ok(SearchEnd::NetFault),
@@ -184,7 +213,9 @@ fn last_by(fault: ClientFault) -> Result<SearchEnd, NoMemory>
 
 /// The same where None says that the search goes on.
 pub(crate) fn end_by(fault: ClientFault) -> Result<Option<SearchEnd>, NoMemory>
-    ensures { IfOk result (λ end. (fault ≢ ClientFault.NoMemory) × (end ≡ Some (end_by fault))) }
+    ensures ends { IfOk result (λ end.
+        (fault ≢ ClientFault.NoMemory) × (end ≡ Some (end_by fault))) }
+    ensures memory { OnErr result (fault ≡ ClientFault.NoMemory) }
 {
     let end = last_by(fault)?;
     Ok(Some(end))

@@ -1,11 +1,18 @@
 //! The one link of a search.
 
-ghost use Rattle.std.specs.Prelude.{◌≡◌, ◌<◌, ◌≤◌, None, IfOk, IfSome, length};
+ghost use Rattle.std.specs.Prelude.{◌≡◌, ◌≢◌, ◌<◌, ◌≤◌, None, IfOk, IfSome, OnErr, length};
 ghost use Rattle.entry_tree.specs.Selection.{search_of};
 ghost use Rattle.ldap_client.specs.Clients.{client_by, fresh};
 ghost use Rattle.ldap_client.specs.Links.{link_by};
 ghost use Rattle.ldap_filter.specs.FilterTree.{depth, tree_of};
-ghost use Rattle.ldap_search.specs.Calls.{CallsOnce, HungUp, Talks};
+ghost use Rattle.ldap_search.specs.Calls.{
+  CallsInPart,
+  CallsOnce,
+  HungUp,
+  HungUpInPart,
+  Talks,
+  TalksInPart,
+};
 ghost use Rattle.ldap_search.specs.Talks.{output_by};
 ghost use Rattle.sync_io.specs.Faults.{CountHasRisen};
 
@@ -36,10 +43,19 @@ pub(crate) fn call<R: Wait, D: Dial, O: Sink>(
         let shown = output_by O.bytes_held O.write_fault_count in
         IfOk result (λ end. CallsOnce state address.now (search_of spec) count (D.dialled
         dial.old) (shown output.old) end (D.dialled dial.new) (shown output.new)) }
+    ensures in_part { let state = link_by D.Link.bytes_left D.Link.bytes_read D.Link.bytes_held
+        D.Link.read_fault_count D.Link.write_fault_count in
+        let shown = output_by O.bytes_held O.write_fault_count in
+        OnErr result (CallsInPart state address.now (search_of spec) count (D.dialled
+        dial.old) (shown output.old) (D.dialled dial.new) (shown output.new)) }
     ensures output_failed { IfOk result (λ end. end ≡ SearchEnd.OutputFault
         → CountHasRisen (O.write_fault_count output.old) (O.write_fault_count output.new)) }
     ensures net_failed { IfOk result (λ end. end ≡ SearchEnd.NetFault
         → CountHasRisen (D.dial_fault_count dial.old) (D.dial_fault_count dial.new)) }
+    ensures output_faultless { IfOk result (λ end. end ≢ SearchEnd.OutputFault
+        → O.write_fault_count output.new ≡ O.write_fault_count output.old) }
+    ensures net_faultless { IfOk result (λ end. end ≢ SearchEnd.NetFault
+        → D.dial_fault_count dial.new ≡ D.dial_fault_count dial.old) }
     ensures later { D.dial_fault_count dial.old ≤ D.dial_fault_count dial.new }
 {
     match dial.connect(address) {
@@ -69,6 +85,11 @@ fn search_over<R: Wait, D: Dial, O: Sink>(
         (shown output.old) end (shown output.new)
         (D.dialled dial.old) (D.dial_fault_count dial.old)
         (D.dialled dial.new) (D.dial_fault_count dial.new)) }
+    ensures in_part { let state = link_by D.Link.bytes_left D.Link.bytes_read D.Link.bytes_held
+        D.Link.read_fault_count D.Link.write_fault_count in
+        let shown = output_by O.bytes_held O.write_fault_count in
+        OnErr result (HungUpInPart state (search_of spec) count (state link)
+        (shown output.old) (shown output.new) (D.dialled dial.old) (D.dialled dial.new)) }
     ensures later { D.dial_fault_count dial.old ≤ D.dial_fault_count dial.new }
 {
     match Client::new(alloc, link) {
@@ -99,11 +120,16 @@ fn talk<R: Wait, L: Link, O: Sink>(
     requires fresh { let state = link_by L.bytes_left L.bytes_read L.bytes_held
         L.read_fault_count L.write_fault_count in
         client_by state client.old ≡ fresh (client_by state client.old).link }
-    ensures { let state = link_by L.bytes_left L.bytes_read L.bytes_held
+    ensures talks { let state = link_by L.bytes_left L.bytes_read L.bytes_held
         L.read_fault_count L.write_fault_count in
         let shown = output_by O.bytes_held O.write_fault_count in
         IfOk result (λ end. Talks (search_of spec) count (client_by state client.old).link
         (client_by state client.new).link (shown output.old) end (shown output.new)) }
+    ensures in_part { let state = link_by L.bytes_left L.bytes_read L.bytes_held
+        L.read_fault_count L.write_fault_count in
+        let shown = output_by O.bytes_held O.write_fault_count in
+        OnErr result (TalksInPart (search_of spec) count (client_by state client.old).link
+        (client_by state client.new).link (shown output.old) (shown output.new)) }
 {
     match count {
         Some(count) => follow(rt, alloc, client, spec, count, output),

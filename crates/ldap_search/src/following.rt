@@ -1,12 +1,24 @@
 //! A search that is followed with content synchronisation, up to a number of stored cookies.
 
-ghost use Rattle.std.specs.Prelude.{◌≡◌, ◌<◌, ◌≤◌, None, Some, IfOk};
+ghost use Rattle.std.specs.Prelude.{◌≡◌, ◌<◌, ◌≤◌, None, Some, IfOk, OnErr};
 ghost use Rattle.entry_tree.specs.Selection.{search_of};
 ghost use Rattle.ldap_client.specs.Clients.{client_by, fresh};
 ghost use Rattle.ldap_client.specs.Links.{link_by};
 ghost use Rattle.ldap_filter.specs.FilterTree.{depth, tree_of};
-ghost use Rattle.ldap_search.specs.Steps.{EndsBy, FollowsNext, StartsFollowing, StoresOne, Unbinds};
-ghost use Rattle.ldap_search.specs.Talks.{AsksToFollow, output_by};
+ghost use Rattle.ldap_messages.specs.Whole.{message_octets};
+ghost use Rattle.ldap_search.specs.Requests.{unbind_request};
+ghost use Rattle.ldap_search.specs.Steps.{
+  EndsBy,
+  FollowsNext,
+  IsUnwritten,
+  StartsFollowing,
+  StopsBy,
+  StopsFollowing,
+  StopsStoring,
+  StoresOne,
+  Unbinds,
+};
+ghost use Rattle.ldap_search.specs.Talks.{AsksToFollow, AsksToFollowInPart, output_by};
 
 use crate::SearchEnd;
 use crate::answering::end_by;
@@ -37,11 +49,16 @@ pub(crate) fn follow<R: Wait, L: Link, O: Sink>(
     requires fresh { let state = link_by L.bytes_left L.bytes_read L.bytes_held
         L.read_fault_count L.write_fault_count in
         client_by state client.old ≡ fresh (client_by state client.old).link }
-    ensures { let state = link_by L.bytes_left L.bytes_read L.bytes_held
+    ensures asks { let state = link_by L.bytes_left L.bytes_read L.bytes_held
         L.read_fault_count L.write_fault_count in
         let shown = output_by O.bytes_held O.write_fault_count in
         IfOk result (λ end. AsksToFollow (search_of spec) count (client_by state client.old).link
         (client_by state client.new).link (shown output.old) end (shown output.new)) }
+    ensures in_part { let state = link_by L.bytes_left L.bytes_read L.bytes_held
+        L.read_fault_count L.write_fault_count in
+        let shown = output_by O.bytes_held O.write_fault_count in
+        OnErr result (AsksToFollowInPart (search_of spec) count (client_by state client.old).link
+        (client_by state client.new).link (shown output.old) (shown output.new)) }
 {
     let mut consumer = DigestedConsumer::new(Consumer::new(alloc, spec, false)?);
     match ask(client, &mut consumer) {
@@ -69,10 +86,14 @@ fn ask<L: Link>(
     requires live { let state = link_by L.bytes_left L.bytes_read L.bytes_held
         L.read_fault_count L.write_fault_count in
         (client_by state client.old).fault ≡ None }
-    ensures { let state = link_by L.bytes_left L.bytes_read L.bytes_held
+    ensures starts { let state = link_by L.bytes_left L.bytes_read L.bytes_held
         L.read_fault_count L.write_fault_count in
         StartsFollowing (client_by state client.old) consumer.old result (client_by state
         client.new) consumer.new }
+    ensures unwritten { let state = link_by L.bytes_left L.bytes_read L.bytes_held
+        L.read_fault_count L.write_fault_count in
+        OnErr result
+        ((client_by state client.new).link.held ≡ (client_by state client.old).link.held) }
 {
     let Ok(request) = consumer.request(SEARCH_ID, Mode::RefreshAndPersist) else {
         return Err(AllocError);
@@ -101,6 +122,11 @@ fn follow_next<R: Wait, L: Link, O: Sink>(
         let shown = output_by O.bytes_held O.write_fault_count in
         FollowsNext wanted.old (client_by state client.old) consumer.old (shown output.old) result
         wanted.new (client_by state client.new) consumer.new (shown output.new) }
+    ensures in_part { let state = link_by L.bytes_left L.bytes_read L.bytes_held
+        L.read_fault_count L.write_fault_count in
+        let shown = output_by O.bytes_held O.write_fault_count in
+        OnErr result (StopsFollowing wanted.old (client_by state client.old) consumer.old
+        (shown output.old) (client_by state client.new) (shown output.new)) }
     ensures live { let state = link_by L.bytes_left L.bytes_read L.bytes_held
         L.read_fault_count L.write_fault_count in
         IfOk result (λ end. end ≡ None → (client_by state client.new).fault ≡ None) }
@@ -135,6 +161,11 @@ fn end_of<L: Link, O: Sink>(
         let shown = output_by O.bytes_held O.write_fault_count in
         EndsBy taken consumer.old.copy wanted.old (client_by state client.old) (shown output.old)
         result wanted.new (client_by state client.new) (shown output.new) }
+    ensures in_part { let state = link_by L.bytes_left L.bytes_read L.bytes_held
+        L.read_fault_count L.write_fault_count in
+        let shown = output_by O.bytes_held O.write_fault_count in
+        OnErr result (StopsBy taken consumer.old.copy wanted.old (client_by state client.old)
+        (shown output.old) (client_by state client.new) (shown output.new)) }
 {
     match taken {
         Taken::Staged | Taken::Copied(_) => Ok(None),
@@ -166,6 +197,11 @@ fn print_stored<L: Link, O: Sink>(
         let shown = output_by O.bytes_held O.write_fault_count in
         StoresOne consumer.old.copy wanted.old (client_by state client.old) (shown output.old)
         result wanted.new (client_by state client.new) (shown output.new) }
+    ensures in_part { let state = link_by L.bytes_left L.bytes_read L.bytes_held
+        L.read_fault_count L.write_fault_count in
+        let shown = output_by O.bytes_held O.write_fault_count in
+        OnErr result (StopsStoring consumer.old.copy wanted.old (client_by state client.old)
+        (shown output.old) (client_by state client.new) (shown output.new)) }
 {
     let line = stored_line(alloc, consumer)?;
     if 1 < *wanted {
@@ -183,9 +219,13 @@ fn unbind<L: Link>(alloc: Global, client: &mut Client<L>) -> Result<Option<Searc
     requires live { let state = link_by L.bytes_left L.bytes_read L.bytes_held
         L.read_fault_count L.write_fault_count in
         (client_by state client.old).fault ≡ None }
-    ensures { let state = link_by L.bytes_left L.bytes_read L.bytes_held
+    ensures unbinds { let state = link_by L.bytes_left L.bytes_read L.bytes_held
         L.read_fault_count L.write_fault_count in
         Unbinds (client_by state client.old) result (client_by state client.new) }
+    ensures unwritten { let state = link_by L.bytes_left L.bytes_read L.bytes_held
+        L.read_fault_count L.write_fault_count in
+        OnErr result (IsUnwritten (message_octets unbind_request) (client_by state client.old)
+        (client_by state client.new)) }
 {
     match send(client, unbind_request(alloc)) {
         Ok(()) => Ok(Some(SearchEnd::Done)),

@@ -1,6 +1,6 @@
 //! What is printed of a search.
 
-ghost use Rattle.std.specs.Prelude.{◌≡◌, IfOk, string_bytes};
+ghost use Rattle.std.specs.Prelude.{◌≡◌, IfOk, OnErr, string_bytes};
 ghost use Rattle.ldap_search.specs.Answers.{result_text};
 ghost use Rattle.ldap_search.specs.Copies.{stored_text};
 ghost use Rattle.ldap_search.specs.Printing.{Prints, PrintsLast};
@@ -29,9 +29,10 @@ pub(crate) fn print_result<O: Sink>(
     code: i64,
     output: &mut O,
 ) -> Result<SearchEnd, NoMemory>
-    ensures { IfOk result (λ end. PrintsLast (result_text code)
+    ensures prints { IfOk result (λ end. PrintsLast (result_text code)
         (O.bytes_held output.old) (O.write_fault_count output.old) end
         (O.bytes_held output.new) (O.write_fault_count output.new)) }
+    ensures unprinted { OnErr result (output.new ≡ output.old) }
 {
     let text = format!(in alloc; "result {code}\n")?;
     Ok(print_last(output, text.as_bytes()))

@@ -1,10 +1,10 @@
 //! Searches over a net.
 
-ghost use Rattle.std.specs.Prelude.{◌≡◌, ◌<◌, ◌≤◌, IfOk, IfSome};
+ghost use Rattle.std.specs.Prelude.{◌≡◌, ◌≢◌, ◌<◌, ◌≤◌, IfOk, IfSome, OnErr};
 ghost use Rattle.entry_tree.specs.Selection.{search_of};
 ghost use Rattle.ldap_client.specs.Links.{link_by};
 ghost use Rattle.ldap_filter.specs.FilterTree.{depth, tree_of};
-ghost use Rattle.ldap_search.specs.Calls.{Searches};
+ghost use Rattle.ldap_search.specs.Calls.{Searches, SearchesInPart};
 ghost use Rattle.ldap_search.specs.Talks.{output_by};
 ghost use Rattle.sync_io.specs.Faults.{CountHasRisen};
 
@@ -36,10 +36,19 @@ pub fn search<R: Wait, O: Sink, N: Net>(
         let shown = output_by O.bytes_held O.write_fault_count in
         IfOk result (λ end. Searches state N.Caller.dialled address.now (search_of spec) count
         (N.served net.old) (shown output.old) end (N.served net.new) (shown output.new)) }
+    ensures in_part { let state = link_by N.Caller.Link.bytes_left N.Caller.Link.bytes_read
+        N.Caller.Link.bytes_held N.Caller.Link.read_fault_count N.Caller.Link.write_fault_count in
+        let shown = output_by O.bytes_held O.write_fault_count in
+        OnErr result (SearchesInPart state N.Caller.dialled address.now (search_of spec) count
+        (N.served net.old) (shown output.old) (N.served net.new) (shown output.new)) }
     ensures output_failed { IfOk result (λ end. end ≡ SearchEnd.OutputFault
         → CountHasRisen (O.write_fault_count output.old) (O.write_fault_count output.new)) }
     ensures net_failed { IfOk result (λ end. end ≡ SearchEnd.NetFault
         → CountHasRisen (N.net_fault_count net.old) (N.net_fault_count net.new)) }
+    ensures output_faultless { IfOk result (λ end. end ≢ SearchEnd.OutputFault
+        → O.write_fault_count output.new ≡ O.write_fault_count output.old) }
+    ensures net_faultless { IfOk result (λ end. end ≢ SearchEnd.NetFault
+        → N.net_fault_count net.new ≡ N.net_fault_count net.old) }
     ensures later { N.net_fault_count net.old ≤ N.net_fault_count net.new }
 {
     match net.caller() {

@@ -6,3 +6,4 @@ pub mod Rounding
 pub mod Ports
 pub mod Saying
 pub mod Prefixed
+pub mod Holding

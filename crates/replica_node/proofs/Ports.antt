@@ -180,6 +180,13 @@ pub refused_own : (n : ℕ) (old new : PortState) (commit : Commit) (found : Com
 refused_own n old new commit found commits own =
     later_own n old commits.replied.place commits.replied.later (subst (λ (p : PortState). AllOwn n p.journal) commits.replied.replies.err own)
 
+-- which is the same after it
+pub refused_same : (n : ℕ) (old new : PortState) (commit : Commit) (found : CommitFault) → Commits old commit (Err found) new → old.number ≡ n → AllOwn n new.journal → IsSamePort old new
+refused_same n old new commit found commits mine own =
+    let err = commits.replied.replies.err in
+    subst (λ (p : PortState). IsSamePort old p) (sym err)
+    (later_same n old commits.replied.place commits.replied.later mine (subst (λ (p : PortState). AllOwn n p.journal) err own))
+
 -- and is of the same kind after it
 pub refused_kind : (old new : PortState) (commit : Commit) (found : CommitFault) → Commits old commit (Err found) new → new.kind ≡ old.kind
 refused_kind old new commit found commits = ap (λ (p : PortState). p.kind) commits.replied.replies.err ∙ later_kind old commits.replied.place commits.replied.later

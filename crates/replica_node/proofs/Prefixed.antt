@@ -33,10 +33,9 @@ use Rattle.sync_provider.specs.Ports.{PortState}
 use Rattle.sync_provider.specs.declared.provider.Kind.{Kind}
 use Rattle.sync_provider.specs.declared.provider.Kind.TheVariants.{Root, Replica}
 use Rattle.replica_node.specs.Following.{outcome_of}
-use Rattle.replica_node.specs.Prefixes.{AreOfStreams, BeginsAfter, CommitsPrefixes, HoldsPrefix, IsAlone, IsDirectory, IsOfStream, IsOwn, LeavePrefixes, LeavesPrefix, Carries, CarriesAll, StepLeavesPrefix}
+use Rattle.replica_node.specs.Prefixes.{AreOfStreams, BeginsAfter, HoldsPrefix, IsAlone, IsDirectory, IsOfStream, IsOwn, LeavePrefixes, LeavesPrefix, Carries, CarriesAll, StepLeavesPrefix}
 use Rattle.replica_node.specs.ReplicaRounds.{AreOver, DoesAll, LinkRound, OverLink, ReplicaRound, Unlinked, round_outcome}
-use Rattle.replica_node.specs.Replicas.{IsLimited}
-use Rattle.replica_node.specs.Rounds.{EndedWith, EndsBy, Faulted, FollowsOver, LinkFailed, ReadToEnd, Refused, RoundEnd, Uncommitted, Wanted, search_id, searching}
+use Rattle.replica_node.specs.Rounds.{EndedWith, EndsBy, Faulted, FollowsOver, LinkFailed, OutOfMemory, ReadToEnd, Refused, RoundEnd, Uncommitted, Wanted, search_id, searching}
 use Rattle.replica_node.specs.Steps.{Commits, GoesOn, ReplicaStep, TakesAll}
 use Rattle.replica_node.specs.declared.end.RoundOutcome.TheVariants as outcome
 use Rattle.replica_node.proofs.Ports.{AllOwn, commit_made, made_own, never_made, never_refused, refused_kind, refused_own}
@@ -103,17 +102,18 @@ goes_own n (Over code) old new goes own = absurd goes
 goes_own n (Fault found) old new goes own = absurd goes
 goes_own n NoMemory old new goes own = absurd goes
 
-steps_own : (n : ℕ) (steps : List ReplicaStep) (copy copy' : Copy) (port port' : PortState) → TakesAll copy port steps copy' port' → AllOwn n port'.journal → AllOwn n port.journal
+pub steps_own : (n : ℕ) (steps : List ReplicaStep) (copy copy' : Copy) (port port' : PortState) → TakesAll copy port steps copy' port' → AllOwn n port'.journal → AllOwn n port.journal
 steps_own n [] copy copy' port port' takes own = subst (λ (p : PortState). AllOwn n p.journal) takes.1 own
 steps_own n (step ∷ steps) copy copy' port port' takes own = goes_own n step.taken port step.port takes.0.goes (steps_own n steps step.copy copy' step.port port' takes.1 own)
 
-ends_own : (n : ℕ) (end : RoundEnd) (copy copy' : Copy) (port port' : PortState) → EndsBy end copy port copy' port' → AllOwn n port'.journal → AllOwn n port.journal
+pub ends_own : (n : ℕ) (end : RoundEnd) (copy copy' : Copy) (port port' : PortState) → EndsBy end copy port copy' port' → AllOwn n port'.journal → AllOwn n port.journal
 ends_own n ReadToEnd copy copy' port port' ends own = subst (λ (p : PortState). AllOwn n p.journal) ends.1 own
 ends_own n (Refused place) copy copy' port port' ends own = subst (λ (p : PortState). AllOwn n p.journal) ends.1 own
 ends_own n LinkFailed copy copy' port port' ends own = subst (λ (p : PortState). AllOwn n p.journal) ends.1 own
 ends_own n (EndedWith message code) copy copy' port port' ends own = subst (λ (p : PortState). AllOwn n p.journal) ends.1 own
 ends_own n (Faulted message found) copy copy' port port' ends own = subst (λ (p : PortState). AllOwn n p.journal) ends.1 own
 ends_own n (Uncommitted message commit found) copy copy' port port' ends own = refused_own n port port' commit found ends.1 own
+ends_own n OutOfMemory copy copy' port port' ends own = subst (λ (p : PortState). AllOwn n p.journal) ends.1 own
 
 -- ---- at a root nothing is committed
 
@@ -140,6 +140,7 @@ ends_rooted LinkFailed copy copy' port port' ends = ap (λ (p : PortState). p.ki
 ends_rooted (EndedWith message code) copy copy' port port' ends = ap (λ (p : PortState). p.kind) ends.1
 ends_rooted (Faulted message found) copy copy' port port' ends = ap (λ (p : PortState). p.kind) ends.1
 ends_rooted (Uncommitted message commit found) copy copy' port port' ends = refused_kind port port' commit found ends.1
+ends_rooted OutOfMemory copy copy' port port' ends = ap (λ (p : PortState). p.kind) ends.1
 
 module _ {L : Type 0} where
   rooted : (operation : SyncOperation) (wanted : Wanted) (done : List (ReplicaRound L)) (copy copy' : Copy) (port port' : PortState) → DoesAll wanted copy port done copy' port' → port.kind ≡ Root
@@ -157,7 +158,7 @@ module _ {L : Type 0} where
 
   -- ---- rounds, one after another
 
-  does_own : (n : ℕ) (wanted : Wanted) (done : List (ReplicaRound L)) (copy copy' : Copy) (port port' : PortState) → DoesAll wanted copy port done copy' port' → AllOwn n port'.journal → AllOwn n port.journal
+  pub does_own : (n : ℕ) (wanted : Wanted) (done : List (ReplicaRound L)) (copy copy' : Copy) (port port' : PortState) → DoesAll wanted copy port done copy' port' → AllOwn n port'.journal → AllOwn n port.journal
   does_own n wanted [] copy copy' port port' does own = subst (λ (p : PortState). AllOwn n p.journal) does.1 own
   does_own n wanted (Unlinked ∷ done) copy copy' port port' does own =
       subst (λ (p : PortState). AllOwn n p.journal) does.2.1 (does_own n wanted done does.0 copy' does.1 port' does.3 own)
@@ -307,6 +308,7 @@ module _ (operation : SyncOperation) (dir : IsDirectory operation) (n : ℕ) whe
       let held = (and_parts (list_all is_within_entry_limit commit.puts) (is_directory_content (committed copy.held commit.puts commit.drops)) ends.0.committed.fits).1 in
       absurd (never_refused n port port' commit found ends.1 step.kind step.number own
       (subst (λ (es : List Entry). is_directory_content (committed es commit.puts commit.drops) ≡ true) (sym step.same) held) over)
+  end_holds OutOfMemory copy after copy' port port' step ends is over own = absurd (let wrong : outcome.NoMemory ≡ outcome.Over = over in cc)
 
   -- ---- all rounds
 
@@ -354,7 +356,7 @@ module _ (operation : SyncOperation) (dir : IsDirectory operation) (n : ℕ) whe
 -- ---- the law
 
 -- a directory without writes has no entries
-none_yet : (d : DirectoryState) → d.writes ≡ [] → entries_of d ≡ []
+pub none_yet : (d : DirectoryState) → d.writes ≡ [] → entries_of d ≡ []
 unfolding state_from
 none_yet d none = ap (λ (writes : List Write). entries_after d.history writes) none
 
@@ -367,10 +369,15 @@ first_step operation port port' alone kind = record {
   number = refl;
 }
 
+-- each commit leaves the content after some of the writes
+abbrev pub CommitsLeave : {L : Type 0} → (before after : PortState) → List (ReplicaRound L) → Type 0
+CommitsLeave before after done =
+    (operation : SyncOperation) → IsDirectory operation → IsAlone before after → All (λ round. AreOfStreams operation round) done → All (λ round. LeavePrefixes operation round) done
+
 module _ {L : Type 0} (wanted : Wanted) (port port' : PortState) where
   -- after each of the rounds another one may come
-  pub prefixes_over : (done : List (ReplicaRound L)) (copy' : Copy) → DoesAll wanted nothing port done copy' port' → AreOver done → CommitsPrefixes port port' done
-  prefixes_over done copy' does over operation dir alone of = by port.kind refl
+  pub leaves_over : (done : List (ReplicaRound L)) (copy' : Copy) → DoesAll wanted nothing port done copy' port' → AreOver done → CommitsLeave port port' done
+  leaves_over done copy' does over operation dir alone of = by port.kind refl
     where
       by : (kind : Kind) → port.kind ≡ kind → All (λ (round : ReplicaRound L). LeavePrefixes operation round) done
       by Root is = All-from_recursion (λ (round : ReplicaRound L). LeavePrefixes operation round) done (rooted operation wanted done nothing copy' port port' does is)
@@ -398,9 +405,9 @@ module _ {L : Type 0} (wanted : Wanted) (port port' : PortState) where
       let one = round_holds operation dir n wanted last split.last.0 split.mid_port split.last.1 begun split.last.2.1 (all_rest streams before (OverLink last ∷ []) of).0 own_last in
       all_both (λ (round : ReplicaRound L). LeavePrefixes operation round) before (OverLink last ∷ []) first.leaves (All-from_recursion (StepLeavesPrefix operation) last.steps one.leaves, tt)
 
-  limited_by : (before : List (ReplicaRound L)) (last : LinkRound L) (copy' : Copy) → DoesAll wanted nothing port (before ++ OverLink last ∷ []) copy' port' → AreOver before
-      → CommitsPrefixes port port' (before ++ OverLink last ∷ [])
-  limited_by before last copy' does over operation dir alone of = by port.kind refl
+  ended_by : (before : List (ReplicaRound L)) (last : LinkRound L) (copy' : Copy) → DoesAll wanted nothing port (before ++ OverLink last ∷ []) copy' port' → AreOver before
+      → CommitsLeave port port' (before ++ OverLink last ∷ [])
+  ended_by before last copy' does over operation dir alone of = by port.kind refl
     where
       done : List (ReplicaRound L)
       done = before ++ OverLink last ∷ []
@@ -412,8 +419,9 @@ module _ {L : Type 0} (wanted : Wanted) (port port' : PortState) where
           (with_last before last copy' operation dir alone is (split_rounds wanted before (OverLink last ∷ []) nothing copy' port port' does) over
           (recursion_from_All (λ (round : ReplicaRound L). AreOfStreams operation round) done of))
 
-  -- so it is where the last commit met a limit
-  pub prefixes_limited : (limit : ℕ) (done : List (ReplicaRound L)) (copy' : Copy) → DoesAll wanted nothing port done copy' port' → IsLimited limit done → CommitsPrefixes port port' done
-  prefixes_limited limit done copy' does limited =
-      subst (λ (rounds : List (ReplicaRound L)). CommitsPrefixes port port' rounds) (sym limited.rounds_are)
-      (limited_by limited.before limited.last copy' (subst (λ (rounds : List (ReplicaRound L)). DoesAll wanted nothing port rounds copy' port') limited.rounds_are does) limited.over)
+  -- so it is whatever ended the last one
+  pub leaves_last : (before : List (ReplicaRound L)) (last : LinkRound L) (done : List (ReplicaRound L)) (copy' : Copy) → done ≡ before ++ OverLink last ∷ []
+      → DoesAll wanted nothing port done copy' port' → AreOver before → CommitsLeave port port' done
+  leaves_last before last done copy' is does over =
+      subst (λ (rounds : List (ReplicaRound L)). CommitsLeave port port' rounds) (sym is)
+      (ended_by before last copy' (subst (λ (rounds : List (ReplicaRound L)). DoesAll wanted nothing port rounds copy' port') is does) over)

@@ -1,14 +1,16 @@
 -- Rounds of a replica, one after another.
-use Rattle.std.proofs.Common.{◌≡◌, ◌<◌, ◌≤◌, ◌+◌, ℕ, Bool, true, false, List, [], ◌∷◌, ◌++◌, length, map, Option, Some, None, refl, sym, ap, subst, ◌∙◌, append_assoc, arith}
+use Rattle.std.proofs.Common.{◌≡◌, ◌<◌, ◌≤◌, ◌+◌, ℕ, Bool, true, false, List, [], ◌∷◌, ◌++◌, length, map, Option, Some, None, inl, inr, refl, sym, ap, subst, ◌∙◌, append_assoc, arith}
 use Rattle.std.specs.List.{flat_map}
 use Rattle.std.specs.Prelude.{All, IfSome, option_map}
 use Rattle.std.proofs.lemmas.List.{append-nil, length-append, map-append}
 use Rattle.std.proofs.lemmas.List.Concat.{flat_map-append}
 use Rattle.std.proofs.lemmas.List.Elements.{All-nil, All-push}
+use Rattle.ldap_client.proofs.Given.{all_read, given_none}
 use Rattle.ldap_client.specs.Clients.{ClientState, fresh}
 use Rattle.ldap_client.specs.Links.{LinkState}
 use Rattle.ldap_filter.specs.FilterTree.{depth}
 use Rattle.ldap_messages.specs.declared.message.Message.{Message}
+use Rattle.ldap_session.specs.Incoming.{incoming_in}
 use Rattle.sync_consumer.specs.Taking as taking
 use Rattle.sync_consumer.specs.declared.commit.Commit.{Commit}
 use Rattle.sync_io.specs.Dial.{Dialled, dials, hangs_up}
@@ -17,14 +19,14 @@ use Rattle.sync_model.specs.Copy as model
 use Rattle.sync_provider.specs.Ports.{PortState}
 use Rattle.sync_provider.specs.declared.writing.CommitFault.TheVariants as fault
 use Rattle.replica_node.specs.Following.{EndsOver, ReplicaState, outcome_of, replica_at, round_at}
-use Rattle.replica_node.specs.ReplicaRounds.{AreOver, Does, DoesAll, DoesRound, FollowsLink, IsDialled, IsReported, LinkRound, OverLink, ReplicaRound, Unlinked, all_commits, came, commits_of, link_of, round_outcome}
-use Rattle.replica_node.specs.Replicas.{Follows, IsLimited}
-use Rattle.replica_node.specs.Rounds.{EndedWith, Faulted, IsSeen, LinkFailed, ReadToEnd, Refused, RoundEnd, Uncommitted, Wanted, wanted_by}
+use Rattle.replica_node.specs.ReplicaRounds.{AreOver, Does, DoesAll, DoesRound, FollowsLink, IsDialled, IsReported, LinkRound, OverLink, ReplicaRound, TriesRound, Unlinked, all_commits, came, commits_of, link_of, round_outcome}
+use Rattle.replica_node.specs.Replicas.{Follows, IsLimited, IsOutOfMemory}
+use Rattle.replica_node.specs.Rounds.{EndedWith, Faulted, IsSeen, LinkFailed, OutOfMemory, ReadToEnd, Refused, RoundEnd, Uncommitted, Wanted, searching, wanted_by}
 use Rattle.replica_node.specs.declared.end.NodeEnd.{NodeEnd}
 use Rattle.replica_node.specs.declared.end.NodeEnd.TheVariants as node
 use Rattle.replica_node.specs.declared.end.RoundOutcome.{RoundOutcome}
 use Rattle.replica_node.specs.declared.end.RoundOutcome.TheVariants.{LimitReached, NoMemory, Over}
-use Rattle.replica_node.proofs.Prefixed.{prefixes_limited, prefixes_over}
+use Rattle.replica_node.proofs.Holding.{prefixes_last, prefixes_over}
 
 -- the rounds that were tried so far, after each of which another one may come
 pub record HasFollowed {L : Type 0}
@@ -147,6 +149,31 @@ module _ {L : Type 0} where
         counted = follows.counted;
       }
 
+  -- memory ran out before anything was done over a link that came
+  pub link_unused : (seen : L → LinkState) (wanted : Wanted) (link : L) (before after : Option (Dialled L)) (old : ReplicaState) (copy : model.Copy) → copy ≡ taking.without_search old.copy
+      → after ≡ option_map (hangs_up link) before → FollowsLink seen wanted link before old NoMemory after (record old { copy = copy })
+  link_unused seen wanted link before after old copy cut hung = record {
+    back = link;
+    steps = [];
+    end = OutOfMemory;
+    follows = record {
+      between = searching old.copy;
+      between_port = old.port;
+      after = searching old.copy;
+      takes = (refl, refl);
+      ends = (refl, refl);
+      cut = cut;
+    };
+    seen_is = record {
+      written = inr (refl, inr (refl, refl));
+      read = (incoming_in [], all_read (seen link) [] (fresh (seen link)) (given_none (seen link)));
+      failed = λ is. absurd (let wrong : OutOfMemory ≡ LinkFailed = is in cc);
+    };
+    dialled = hung;
+    outcome_is = refl;
+    counted = omega arith;
+  }
+
   -- the client of the link gives it back, and it is hung up
   pub link_followed : (seen : L → LinkState) (wanted : Wanted) (link back now : L) (first client : ClientState) (before after : Option (Dialled L)) (old new : ReplicaState) (outcome : RoundOutcome)
       → first ≡ fresh (seen link) → back ≡ now → client.link ≡ seen now → EndsOver (record { wanted = wanted; replica = old; link = first.link }) (round_at client new) outcome
@@ -164,6 +191,13 @@ module _ {L : Type 0} where
         outcome_is = ends'.outcome_is;
         counted = ends'.counted;
       }
+
+  -- one connection was tried
+  pub round_tried : (seen : L → LinkState) (wanted : Wanted) (address : List ℕ) (before after : Option (Dialled L)) (old new : ReplicaState) (outcome : RoundOutcome)
+      → DoesRound seen wanted address before old outcome after new → TriesRound seen wanted address before old outcome after new
+  round_tried seen wanted address before after old new NoMemory does = inl does
+  round_tried seen wanted address before after old new Over does = does
+  round_tried seen wanted address before after old new (LimitReached limit) does = does
 
   -- ---- one after another
 
@@ -262,6 +296,7 @@ module _ {L : Type 0} where
       by (Uncommitted message commit (fault.DuplicateName one other)) at is = absurd (let wrong : LimitReached limit ≡ Over = is in cc)
       by (Uncommitted message commit fault.NotAReplica) at is = absurd (let wrong : LimitReached limit ≡ Over = is in cc)
       by (Uncommitted message commit fault.NoMemory) at is = absurd (let wrong : LimitReached limit ≡ NoMemory = is in cc)
+      by OutOfMemory at is = absurd (let wrong : LimitReached limit ≡ NoMemory = is in cc)
       by (Uncommitted message commit (fault.LimitReached most)) at is =
           let passed : LimitReached limit ≡ LimitReached most = is in
           let same : limit ≡ most = cc in
@@ -293,15 +328,62 @@ module _ {L : Type 0} where
         dialled = follows.dialled;
         reported = follows.reported;
         ends = (passed, λ some. omega (arith, (so_far.number some).0, number some, longer));
-        prefixes = prefixes_limited wanted port new.port limit done new.copy follows.does passed;
+        prefixes = prefixes_last wanted port new.port passed.before passed.last done new.copy passed.rounds_are follows.does passed.over;
       }
+
+  -- memory ran out before another round
+  stopped : (seen : L → LinkState) (address : List ℕ) (wanted : Wanted) (port : PortState) (before : Option (Dialled L)) (rounds tried : ℕ) (replica : ReplicaState) (after : Option (Dialled L))
+      → HasFollowed seen address wanted port before rounds tried replica after → Follows seen address wanted rounds port before node.NoMemory replica.port after
+  stopped seen address wanted port before rounds tried replica after so_far = record {
+    done = so_far.done;
+    copy = replica.copy;
+    does = so_far.does;
+    dialled = so_far.dialled;
+    reported = so_far.reported;
+    ends = (inl so_far.over, λ some. let number = so_far.number some in omega (arith, number.0, number.1));
+    prefixes = prefixes_over wanted port replica.port so_far.done replica.copy so_far.does so_far.over;
+  }
+
+  -- before the first one
+  pub none_followed : (seen : L → LinkState) (address : List ℕ) (wanted : Wanted) (rounds : ℕ) (port : PortState) (before : Option (Dialled L))
+      → Follows seen address wanted rounds port before node.NoMemory port before
+  none_followed seen address wanted rounds port before =
+      stopped seen address wanted port before rounds 0 (replica_at taking.nothing port 0) before (followed_none seen address wanted port before rounds taking.nothing refl)
+
+  -- in the last one
+  stopped_in : (done : List (ReplicaRound L)) (round : ReplicaRound L) → AreOver done → NoMemory ≡ round_outcome round → IsOutOfMemory (done ++ round ∷ [])
+  stopped_in done Unlinked over is = absurd (let wrong : NoMemory ≡ Over = is in cc)
+  stopped_in done (OverLink round) over is = record { before = done; over = over; last = round; rounds_are = refl; out = sym is }
+
+  -- in the last one, or before another one
+  pub ran_out : (seen : L → LinkState) (address : List ℕ) (wanted : Wanted) (port : PortState) (before : Option (Dialled L)) (rounds tried : ℕ) (old new : ReplicaState) (mid after : Option (Dialled L))
+      → HasFollowed seen address wanted port before rounds tried old mid → TriesRound seen wanted address mid old NoMemory after new → (0 < rounds → tried < rounds)
+      → Follows seen address wanted rounds port before node.NoMemory new.port after
+  ran_out seen address wanted port before rounds tried old new mid after so_far (inl more) number =
+      let follows = follows_more seen address wanted port before rounds tried old new mid after NoMemory so_far more in
+      let done = so_far.done ++ more.round ∷ [] in
+      let out = stopped_in so_far.done more.round so_far.over more.outcome_is in
+      let longer : length done ≡ length so_far.done + length (more.round ∷ []) = length-append so_far.done (more.round ∷ []) in
+      record {
+        done = done;
+        copy = new.copy;
+        does = follows.does;
+        dialled = follows.dialled;
+        reported = follows.reported;
+        ends = (inr out, λ some. omega (arith, (so_far.number some).0, number some, longer));
+        prefixes = prefixes_last wanted port new.port out.before out.last done new.copy out.rounds_are follows.does out.over;
+      }
+  ran_out seen address wanted port before rounds tried old new mid after so_far (inr same) number =
+      subst (λ (r : ReplicaState). Follows seen address wanted rounds port before node.NoMemory r.port after) (sym same.1)
+      (subst (λ (a : Option (Dialled L)). Follows seen address wanted rounds port before node.NoMemory old.port a) (sym same.0)
+      (stopped seen address wanted port before rounds tried old mid so_far))
 
   -- ---- the same under other words
 
   -- a round for the same wish
   pub round_wanting : (seen : L → LinkState) (wanted wanted' : Wanted) (address : List ℕ) (before after : Option (Dialled L)) (old new : ReplicaState) (outcome : RoundOutcome) → wanted ≡ wanted'
-      → DoesRound seen wanted address before old outcome after new → DoesRound seen wanted' address before old outcome after new
-  round_wanting seen wanted wanted' address before after old new outcome same does = subst (λ (w : Wanted). DoesRound seen w address before old outcome after new) same does
+      → TriesRound seen wanted address before old outcome after new → TriesRound seen wanted' address before old outcome after new
+  round_wanting seen wanted wanted' address before after old new outcome same tries = subst (λ (w : Wanted). TriesRound seen w address before old outcome after new) same tries
 
   -- rounds for the same wish and address
   pub follows_wanting : (seen : L → LinkState) (address address' : List ℕ) (wanted wanted' : Wanted) (rounds : ℕ) (port port' : PortState) (before after : Option (Dialled L)) (end : NodeEnd)

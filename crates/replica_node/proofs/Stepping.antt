@@ -17,7 +17,7 @@ use Rattle.replica_node.specs.Following.{CommitsOrEnds, EndsWith, ReplicaState, 
 use Rattle.replica_node.specs.Rounds.{EndedWith, Faulted, TakesEffect, Uncommitted, request_of, searching, wanted_by}
 use Rattle.replica_node.specs.Steps.{ReplicaStep, TakesAll, TakesOne, commit_count, commits_in, messages_of}
 use Rattle.replica_node.specs.declared.end.RoundOutcome.{RoundOutcome}
-use Rattle.replica_node.specs.declared.end.RoundOutcome.TheVariants.{LimitReached, NoMemory, Over}
+use Rattle.replica_node.specs.declared.end.RoundOutcome.TheVariants.{Over}
 
 -- what is wanted stays where its parts do
 pub same_wanted : (old new : taking.ConsumerState) → new.spec ≡ old.spec → new.reload ≡ old.reload → wanted_by new ≡ wanted_by old
@@ -44,10 +44,8 @@ stored_takes old message commit None new takes committed commits = record {
   takes = record { takes = takes; committed = committed; goes = (commits.0, commits.1) };
   counted = commits.2;
 }
-stored_takes old message commit (Some NoMemory) new takes committed commits = tt
-stored_takes old message commit (Some Over) new takes committed commits = ends_uncommitted old message commit Over new (record { takes = inl takes; committed = committed }) commits
-stored_takes old message commit (Some (LimitReached limit)) new takes committed commits =
-    ends_uncommitted old message commit (LimitReached limit) new (record { takes = inl takes; committed = committed }) commits
+stored_takes old message commit (Some outcome) new takes committed commits =
+    inl (ends_uncommitted old message commit outcome new (record { takes = inl takes; committed = committed }) commits)
 
 -- without one
 pub copied_takes : (old : ReplicaState) (message : Message) (commit : Commit) (result : Option RoundOutcome) (new : ReplicaState)
@@ -58,10 +56,8 @@ copied_takes old message commit None new takes committed commits = record {
   takes = record { takes = takes; committed = committed; goes = (commits.0, commits.1) };
   counted = commits.2;
 }
-copied_takes old message commit (Some NoMemory) new takes committed commits = tt
-copied_takes old message commit (Some Over) new takes committed commits = ends_uncommitted old message commit Over new (record { takes = inr takes; committed = committed }) commits
-copied_takes old message commit (Some (LimitReached limit)) new takes committed commits =
-    ends_uncommitted old message commit (LimitReached limit) new (record { takes = inr takes; committed = committed }) commits
+copied_takes old message commit (Some outcome) new takes committed commits =
+    inl (ends_uncommitted old message commit outcome new (record { takes = inr takes; committed = committed }) commits)
 
 -- the provider ended the search
 pub over_ends : (old new : ReplicaState) (message : Message) (code : ℤ) → taking.Takes old.copy message new.copy (taken.Over code) → new.port ≡ old.port → new.stored ≡ old.stored

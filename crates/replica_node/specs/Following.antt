@@ -1,10 +1,10 @@
 -- What is done over one link step by step, whatever came before.
-use Rattle.std.specs.Prelude.{◌≡◌, ℕ, ◌+◌, ◌≤◌, List, [], ◌∷◌, ◌++◌, length, Option, Some, None, Ok, Err}
+use Rattle.std.specs.Prelude.{◌≡◌, ◌⊎◌, ℕ, ◌+◌, ◌≤◌, List, [], ◌∷◌, ◌++◌, length, Option, Some, None, Ok, Err}
 use Rattle.std.specs.Io.KnownBytes.{Appends}
 use Rattle.ldap_client.specs.Clients.{Asks, ClientState, HasGiven}
 use Rattle.ldap_client.specs.Links.{LinkState}
 use Rattle.ldap_client.specs.declared.fault.ClientFault.{ClientFault}
-use Rattle.ldap_client.specs.declared.fault.ClientFault.TheVariants as client
+use Rattle.ldap_client.specs.declared.fault.ClientFault.TheVariants as client_fault
 use Rattle.ldap_client.specs.declared.fault.ClientFault.TheVariants.{WriteFault}
 use Rattle.ldap_messages.specs.Whole.{message_octets, message_value}
 use Rattle.ldap_messages.specs.declared.message.Message.{Message}
@@ -15,7 +15,7 @@ use Rattle.sync_model.specs.Copy as model
 use Rattle.sync_provider.specs.Ports.{PortState}
 use Rattle.sync_provider.specs.declared.writing.CommitFault.{CommitFault}
 use Rattle.sync_provider.specs.declared.writing.CommitFault.TheVariants as commit
-use Rattle.replica_node.specs.Rounds.{EndedWith, EndsBy, Faulted, FollowsOver, IsSeen, LinkFailed, ReadToEnd, Refused, RoundEnd, Uncommitted, Wanted, last_of, request_of, searching}
+use Rattle.replica_node.specs.Rounds.{EndedWith, EndsBy, Faulted, FollowsOver, IsSeen, LinkFailed, OutOfMemory, ReadToEnd, Refused, RoundEnd, Uncommitted, Wanted, last_of, request_of, searching}
 use Rattle.replica_node.specs.Steps.{Commits, ReplicaStep, TakesAll, TakesOne, commit_count, commits_in, messages_of}
 use Rattle.replica_node.specs.declared.end.RoundOutcome.{RoundOutcome}
 use Rattle.replica_node.specs.declared.end.RoundOutcome.TheVariants.{Over, LimitReached, NoMemory}
@@ -37,14 +37,15 @@ outcome_of LinkFailed = Over
 outcome_of (EndedWith message code) = Over
 outcome_of (Faulted message found) = Over
 outcome_of (Uncommitted message commit fault) = outcome_of_fault fault
+outcome_of OutOfMemory = NoMemory
 
 -- after a fault of the client
 abbrev pub outcome_by : ClientFault → RoundOutcome
-outcome_by client.ReadFault = Over
-outcome_by client.WriteFault = Over
-outcome_by (client.PeerMessage place) = Over
-outcome_by client.EndOfInput = Over
-outcome_by client.NoMemory = NoMemory
+outcome_by client_fault.ReadFault = Over
+outcome_by client_fault.WriteFault = Over
+outcome_by (client_fault.PeerMessage place) = Over
+outcome_by client_fault.EndOfInput = Over
+outcome_by client_fault.NoMemory = NoMemory
 
 -- ---- a replica
 
@@ -88,11 +89,11 @@ pub record EndsWith
   pub outcome_is : outcome ≡ outcome_of end
   pub counted : new.stored ≡ old.stored
 
--- one or the other; out of memory is neither
+-- one or the other; or memory ran out before it was taken
 abbrev pub TakesOrEnds : ReplicaState → Message → Option RoundOutcome → ReplicaState → Type 0
 TakesOrEnds old message None new = TakesOn old message new
-TakesOrEnds old message (Some NoMemory) new = Unit {0}
-TakesOrEnds old message (Some outcome) new = EndsWith old message outcome new
+TakesOrEnds old message (Some outcome) new =
+    EndsWith old message outcome new ⊎ ((outcome ≡ NoMemory) × (new ≡ old))
 
 -- ---- one link
 
@@ -147,25 +148,25 @@ abbrev pub TakesNext : RoundState → Option RoundOutcome → RoundState → Typ
 TakesNext old None new =
     (start : RoundStart) (steps : List ReplicaStep) → IsFollowing start steps old
     → (step : ReplicaStep) × IsFollowing start (steps ++ step ∷ []) new
-TakesNext old (Some NoMemory) new = Unit {0}
 TakesNext old (Some outcome) new =
     (start : RoundStart) (steps : List ReplicaStep) → IsFollowing start steps old
     → EndsOver start (cut_off new) outcome
 
 -- all messages of a round were taken, to its end
 abbrev pub TakesToEnd : RoundState → RoundOutcome → RoundState → Type 0
-TakesToEnd old NoMemory new = Unit {0}
 TakesToEnd old outcome new =
     (start : RoundStart) (steps : List ReplicaStep) → IsFollowing start steps old
     → EndsOver start (cut_off new) outcome
 
--- the search was asked for, or writing that failed
+-- the search was asked for; or writing that failed; or memory ran out, and nothing was written
 abbrev pub AsksOrEnds : Wanted → ClientState → model.Copy → Option RoundOutcome → ClientState
     → model.Copy → Type 0
 AsksOrEnds wanted client copy None client' copy' =
     Asks (message_octets (request_of wanted copy)) client (Ok tt) client'
     × (copy' ≡ searching copy)
-AsksOrEnds wanted client copy (Some NoMemory) client' copy' = Unit {0}
+AsksOrEnds wanted client copy (Some NoMemory) client' copy' =
+    Asks (message_octets (request_of wanted copy)) client (Err client_fault.NoMemory) client'
+    × (taking.without_search copy' ≡ taking.without_search copy)
 AsksOrEnds wanted client copy (Some Over) client' copy' =
     Asks (message_octets (request_of wanted copy)) client (Err WriteFault) client'
     × (copy' ≡ searching copy)

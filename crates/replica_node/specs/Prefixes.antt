@@ -1,6 +1,6 @@
 -- What a replica of one directory commits: the content after a prefix of its writes (RFC 4533,
 -- sections 3.3 and 3.4).
-use Rattle.std.specs.Prelude.{◌≡◌, ◌≤◌, ℕ, Bool, true, false, List, [], ◌∷◌, ◌++◌, map, Option, Some, Ok, All}
+use Rattle.std.specs.Prelude.{◌≡◌, ◌⊎◌, ◌≤◌, ℕ, Bool, true, false, List, [], ◌∷◌, ◌++◌, map, Option, Some, Ok, All}
 use Rattle.directory_writes.specs.Directory.{entries_of}
 use Rattle.ldap_messages.specs.declared.message.Message.{Message}
 use Rattle.sync_consumer.specs.declared.consumer.Taken.{Taken}
@@ -110,10 +110,12 @@ LeavePrefixes operation Unlinked = Unit {0}
 LeavePrefixes operation (OverLink round) = All (StepLeavesPrefix operation) round.steps
 
 -- where the messages of each round are of streams of one directory, each commit leaves the content
--- after some of the writes of that directory
+-- after some of the writes of that directory, and in the end the port's directory holds such a
+-- content, or no entries
 abbrev pub CommitsPrefixes : {L : Type 0} → (before after : PortState) → List (ReplicaRound L)
     → Type 0
 CommitsPrefixes before after done =
     (operation : SyncOperation) → IsDirectory operation → IsAlone before after
     → All (λ round. AreOfStreams operation round) done
     → All (λ round. LeavePrefixes operation round) done
+    × (HoldsPrefix operation after ⊎ (entries_of after.directory ≡ []))

@@ -1,5 +1,5 @@
 -- Rounds of a replica, each over one link, one after another.
-use Rattle.std.specs.Prelude.{◌≡◌, ◌+◌, ℕ, Bool, true, false, List, [], ◌∷◌, ◌++◌, length, map, Option, Some, None, IfSome, All, option_map}
+use Rattle.std.specs.Prelude.{◌≡◌, ◌⊎◌, ◌+◌, ℕ, Bool, true, false, List, [], ◌∷◌, ◌++◌, length, map, Option, Some, None, IfSome, All, option_map}
 use Rattle.std.specs.List.{flat_map}
 use Rattle.ldap_client.specs.Links.{LinkState}
 use Rattle.sync_io.specs.Dial.{Dialled, hangs_up}
@@ -10,7 +10,7 @@ use Rattle.replica_node.specs.Following.{ReplicaState, outcome_of}
 use Rattle.replica_node.specs.Rounds.{FollowsOver, IsSeen, RoundEnd, Wanted}
 use Rattle.replica_node.specs.Steps.{ReplicaStep, commit_count}
 use Rattle.replica_node.specs.declared.end.RoundOutcome.{RoundOutcome}
-use Rattle.replica_node.specs.declared.end.RoundOutcome.TheVariants.{Over}
+use Rattle.replica_node.specs.declared.end.RoundOutcome.TheVariants.{NoMemory, Over}
 
 -- a round over a link: how the link was seen as it came, the link as it was hung up, the copy at
 -- the beginning, the messages that were taken, and what ended the round
@@ -118,3 +118,12 @@ pub record DoesRound {L : Type 0}
   pub reported : IsReported seen wanted before round
   pub outcome_is : outcome ≡ round_outcome round
   pub counted : new.stored ≡ old.stored + commits_of round
+
+-- one connection was tried; or memory ran out before it was
+abbrev pub TriesRound : {L : Type 0} → (L → LinkState) → Wanted → List ℕ → Option (Dialled L)
+    → ReplicaState → RoundOutcome → Option (Dialled L) → ReplicaState → Type 0
+TriesRound seen wanted address before old NoMemory after new =
+    DoesRound seen wanted address before old NoMemory after new
+    ⊎ ((after ≡ before) × (new ≡ old))
+TriesRound seen wanted address before old outcome after new =
+    DoesRound seen wanted address before old outcome after new

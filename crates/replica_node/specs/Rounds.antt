@@ -57,6 +57,8 @@ pub data RoundEnd : Type 0 where
   Faulted : Message → PeerFault → RoundEnd
   -- a stage took effect and its commit is refused
   Uncommitted : Message → Commit → CommitFault → RoundEnd
+  -- memory ran out before the request was written, or before the next message was taken
+  OutOfMemory : RoundEnd
 
 -- the message that ends the round, if one does
 abbrev pub last_of : RoundEnd → List MessageValue
@@ -66,6 +68,7 @@ last_of LinkFailed = []
 last_of (EndedWith message code) = message_value message ∷ []
 last_of (Faulted message found) = message_value message ∷ []
 last_of (Uncommitted message commit fault) = message_value message ∷ []
+last_of OutOfMemory = []
 
 -- a stage took effect, with a cookie or without one, and is a commit to a directory of the entries
 -- before
@@ -87,6 +90,7 @@ EndsBy (Faulted message found) copy port copy' port' =
     taking.Takes copy message copy' (Fault found) × (port' ≡ port)
 EndsBy (Uncommitted message commit fault) copy port copy' port' =
     TakesEffect copy message copy' commit × Commits port commit (Err fault) port'
+EndsBy OutOfMemory copy port copy' port' = (copy' ≡ copy) × (port' ≡ port)
 
 -- Over a link the search was asked for, messages were taken one after another, each stage that took
 -- effect was committed, and then the round ended; what was staged then is dropped.
@@ -122,16 +126,27 @@ ReadsUpTo first now steps (Uncommitted message commit fault) =
     (later : List Incoming)
     × HasRead first now
     (map Arrived (messages_of steps) ++ Arrived (message_value message) ∷ later)
+ReadsUpTo first now steps OutOfMemory =
+    (later : List Incoming) × HasRead first now (map Arrived (messages_of steps) ++ later)
 
--- the request was written, unless a write failed, and then what was read is the messages that were
--- taken; the round ends with a failed link only where the link counted that
+-- no message was taken, since a write of the request failed, or memory ran out before anything was
+-- written
+abbrev pub IsUnasked : Wanted → model.Copy → (first now : LinkState) → List ReplicaStep → RoundEnd
+    → Type 0
+IsUnasked wanted copy first now steps end =
+    (steps ≡ [])
+    × ((CountHasRisen first.write_faults now.write_faults × (end ≡ LinkFailed)
+    × AppendsPrefix first.held now.held (message_octets (request_of wanted copy)))
+    ⊎ ((end ≡ OutOfMemory) × (now.held ≡ first.held)))
+
+-- the request was written, unless a write failed or memory ran out, and then what was read is the
+-- messages that were taken; the round ends with a failed link only where the link counted that
 pub record IsSeen
     (wanted : Wanted) (copy : model.Copy) (first now : LinkState) (steps : List ReplicaStep)
     (end : RoundEnd) : Type 0 where
   pub written :
       Appends first.held now.held (message_octets (request_of wanted copy))
-      ⊎ (CountHasRisen first.write_faults now.write_faults × (end ≡ LinkFailed)
-      × AppendsPrefix first.held now.held (message_octets (request_of wanted copy)))
+      ⊎ IsUnasked wanted copy first now steps end
   pub read : ReadsUpTo first now steps end
   pub failed : end ≡ LinkFailed
       → CountHasRisen first.read_faults now.read_faults

@@ -5,13 +5,15 @@ ghost use Rattle.replica_node.specs.Following.{CommitsOrEnds, IsCounted, TakesOr
 ghost use Rattle.sync_consumer.specs.Taking.{AreFit};
 
 use crate::end::RoundOutcome;
+use crate::reporting::{report_end, report_fault};
 use ldap_messages::Message;
 use sync_consumer::{Commit, Consumer, Taken};
 use sync_io::Clock;
 use sync_provider::{CommitFault, Port};
 
 /// Takes a message, and commits the stage that took effect with it. None where the round goes on.
-pub(crate) fn take<P: Port, C: Clock>(
+pub(crate) fn take<R: Eprint, P: Port, C: Clock>(
+    rt: &R,
     port: &mut P,
     consumer: &mut Consumer,
     clock: &mut C,
@@ -30,8 +32,14 @@ pub(crate) fn take<P: Port, C: Clock>(
         Taken::Staged => None,
         Taken::Stored(commit) => commit_stage(port, clock, commit, stored),
         Taken::Copied(commit) => commit_stage(port, clock, commit, stored),
-        Taken::Over(_) => Some(RoundOutcome::Over),
-        Taken::Fault(_) => Some(RoundOutcome::Over),
+        Taken::Over(code) => {
+            report_end(rt, code);
+            Some(RoundOutcome::Over)
+        }
+        Taken::Fault(fault) => {
+            report_fault(rt, fault);
+            Some(RoundOutcome::Over)
+        }
         Taken::NoMemory => Some(RoundOutcome::NoMemory),
     }
 }

@@ -1,16 +1,16 @@
 //! What is done over one link.
 
-ghost use Rattle.std.specs.Prelude.{◌≡◌, ◌≢◌, ◌≤◌, None};
+ghost use Rattle.std.specs.Prelude.{◌≡◌, ◌≤◌, None};
 ghost use Rattle.ldap_client.specs.Clients.{Asks, client_by, fresh};
 ghost use Rattle.ldap_client.specs.Links.{link_by};
 ghost use Rattle.ldap_filter.specs.FilterTree.{depth};
 ghost use Rattle.ldap_messages.specs.Whole.{HasSpelling, message_octets, message_value};
 ghost use Rattle.replica_node.specs.Following.{AsksOrEnds, EndsOver, IsCounted, TakesNext, TakesToEnd, cut_off, outcome_by, replica_at, round_at};
 ghost use Rattle.replica_node.specs.Rounds.{wanted_by};
-ghost use Rattle.replica_node.specs.declared.end.RoundOutcome.TheVariants.{NoMemory};
 
 use crate::committing::take;
 use crate::end::RoundOutcome;
+use crate::reporting::report_client_fault;
 use ldap_ber::discard;
 use ldap_client::{Client, ClientFault};
 use ldap_messages::Message;
@@ -25,7 +25,7 @@ const SEARCH_ID: u32 = 1;
 
 /// Asks for a search over a link, and follows it to the end of the round. What is staged then is
 /// dropped.
-pub(crate) fn follow<R: Wait, P: Port, L: Link, C: Clock>(
+pub(crate) fn follow<R: Wait + Eprint, P: Port, L: Link, C: Clock>(
     rt: &R,
     port: &mut P,
     client: &mut Client<L>,
@@ -41,7 +41,7 @@ pub(crate) fn follow<R: Wait, P: Port, L: Link, C: Clock>(
     ensures home { P.home port.new ≡ P.home port.old }
     ensures ends { let state = link_by L.bytes_left L.bytes_read L.bytes_held
         L.read_fault_count L.write_fault_count in
-        result ≢ NoMemory → EndsOver (record {
+        EndsOver (record {
           wanted = wanted_by consumer.old;
           replica = replica_at consumer.old.copy (P.state port.old) stored.old;
           link = (client_by state client.old).link;
@@ -57,7 +57,7 @@ pub(crate) fn follow<R: Wait, P: Port, L: Link, C: Clock>(
 }
 
 /// Asks for a search, and takes its messages to the end of the round.
-fn follow_to_end<R: Wait, P: Port, L: Link, C: Clock>(
+fn follow_to_end<R: Wait + Eprint, P: Port, L: Link, C: Clock>(
     rt: &R,
     port: &mut P,
     client: &mut Client<L>,
@@ -73,7 +73,7 @@ fn follow_to_end<R: Wait, P: Port, L: Link, C: Clock>(
     ensures home { P.home port.new ≡ P.home port.old }
     ensures ends { let state = link_by L.bytes_left L.bytes_read L.bytes_held
         L.read_fault_count L.write_fault_count in
-        result ≢ NoMemory → EndsOver (record {
+        EndsOver (record {
           wanted = wanted_by consumer.old;
           replica = replica_at consumer.old.copy (P.state port.old) stored.old;
           link = (client_by state client.old).link;
@@ -127,7 +127,7 @@ fn send<L: Link>(client: &mut Client<L>, message: Message) -> Result<(), ClientF
 }
 
 /// Takes the messages of the search to the end of the round.
-fn take_all<R: Wait, P: Port, L: Link, C: Clock>(
+fn take_all<R: Wait + Eprint, P: Port, L: Link, C: Clock>(
     rt: &R,
     port: &mut P,
     client: &mut Client<L>,
@@ -159,7 +159,7 @@ fn take_all<R: Wait, P: Port, L: Link, C: Clock>(
 }
 
 /// Takes the next message. None where the round goes on.
-fn take_next<R: Wait, P: Port, L: Link, C: Clock>(
+fn take_next<R: Wait + Eprint, P: Port, L: Link, C: Clock>(
     rt: &R,
     port: &mut P,
     client: &mut Client<L>,
@@ -186,11 +186,14 @@ fn take_next<R: Wait, P: Port, L: Link, C: Clock>(
 {
     match client.next(rt) {
         Ok(message) => {
-            let outcome = take(port, consumer, clock, &message, stored);
+            let outcome = take(rt, port, consumer, clock, &message, stored);
             discard(message);
             outcome
         }
-        Err(fault) => Some(outcome_by(fault)),
+        Err(fault) => {
+            report_client_fault(rt, fault);
+            Some(outcome_by(fault))
+        }
     }
 }
 

@@ -8,6 +8,7 @@ mod committing;
 mod end;
 mod following;
 mod replica;
+mod reporting;
 mod round;
 
 pub use end::NodeEnd;

@@ -1,12 +1,11 @@
 //! A replica that follows an upstream, round after round.
 
-ghost use Rattle.std.specs.Prelude.{◌≡◌, ◌≢◌, ◌≤◌, IfOk};
+ghost use Rattle.std.specs.Prelude.{◌≡◌, ◌≤◌, IfOk};
 ghost use Rattle.entry_tree.specs.Selection.{search_of};
 ghost use Rattle.ldap_client.specs.Links.{link_by};
 ghost use Rattle.ldap_filter.specs.FilterTree.{depth, tree_of};
 ghost use Rattle.replica_node.specs.Replicas.{Follows};
 ghost use Rattle.replica_node.specs.Rounds.{wanted_by};
-ghost use Rattle.replica_node.specs.declared.end.NodeEnd.TheVariants.{NoMemory};
 ghost use Rattle.sync_consumer.specs.Taking as taking;
 
 use crate::NodeEnd;
@@ -23,9 +22,10 @@ use sync_provider::Port;
 
 /// Follows an upstream: connects to it, asks for what is wanted with refreshAndPersist and the
 /// cookie that is held, and commits each stage that took effect, until this many connections were
-/// tried; 0 stands for no end. A commit that would pass a limit of the directory ends it before.
-/// After e-syncRefreshRequired the cookie is lost (RFC 4533, section 2.6). It may wait.
-pub fn run_replica<R: Wait, P: Port, D: Dial, C: Clock>(
+/// tried; 0 stands for no end. A commit that would pass a limit of the directory ends it before,
+/// and so does memory that runs out; each commit is made whole or not at all. After
+/// e-syncRefreshRequired the cookie is lost (RFC 4533, section 2.6). It may wait.
+pub fn run_replica<R: Wait + Eprint, P: Port, D: Dial, C: Clock>(
     rt: &R,
     alloc: Global,
     port: &mut P,
@@ -38,7 +38,7 @@ pub fn run_replica<R: Wait, P: Port, D: Dial, C: Clock>(
     ensures home { P.home port.new ≡ P.home port.old }
     ensures follows { let state = link_by D.Link.bytes_left D.Link.bytes_read D.Link.bytes_held
         D.Link.read_fault_count D.Link.write_fault_count in
-        result ≢ NoMemory → Follows state upstream.now.address
+        Follows state upstream.now.address
         (record { spec = search_of upstream.now.spec; reload = upstream.now.reload_hint }) rounds
         (P.state port.old) (D.dialled dial.old) result (P.state port.new) (D.dialled dial.new) }
     ensures later { D.dial_fault_count dial.old ≤ D.dial_fault_count dial.new }
@@ -64,7 +64,7 @@ pub fn run_replica<R: Wait, P: Port, D: Dial, C: Clock>(
 }
 
 /// Tries one connection after another.
-fn run_rounds<R: Wait, P: Port, D: Dial, C: Clock>(
+fn run_rounds<R: Wait + Eprint, P: Port, D: Dial, C: Clock>(
     rt: &R,
     alloc: Global,
     port: &mut P,
@@ -79,7 +79,7 @@ fn run_rounds<R: Wait, P: Port, D: Dial, C: Clock>(
     ensures home { P.home port.new ≡ P.home port.old }
     ensures follows { let state = link_by D.Link.bytes_left D.Link.bytes_read D.Link.bytes_held
         D.Link.read_fault_count D.Link.write_fault_count in
-        result ≢ NoMemory → Follows state address.now (wanted_by consumer.old) rounds
+        Follows state address.now (wanted_by consumer.old) rounds
         (P.state port.old) (D.dialled dial.old) result (P.state port.new) (D.dialled dial.new) }
     ensures later { D.dial_fault_count dial.old ≤ D.dial_fault_count dial.new }
 {

@@ -1,12 +1,11 @@
 //! Rounds.
 
-ghost use Rattle.std.specs.Prelude.{◌≡◌, ◌≢◌, ◌<◌, ◌≤◌, IfSome, length};
+ghost use Rattle.std.specs.Prelude.{◌≡◌, ◌<◌, ◌≤◌, IfSome, length};
 ghost use Rattle.ldap_client.specs.Links.{link_by};
 ghost use Rattle.ldap_filter.specs.FilterTree.{depth};
 ghost use Rattle.replica_node.specs.Following.{IsCounted, replica_at};
-ghost use Rattle.replica_node.specs.ReplicaRounds.{DoesRound, FollowsLink};
+ghost use Rattle.replica_node.specs.ReplicaRounds.{FollowsLink, TriesRound};
 ghost use Rattle.replica_node.specs.Rounds.{wanted_by};
-ghost use Rattle.replica_node.specs.declared.end.RoundOutcome.TheVariants.{NoMemory};
 
 use crate::end::RoundOutcome;
 use crate::following::follow;
@@ -18,7 +17,7 @@ use sync_io::{Clock, Dial, NetFault};
 use sync_provider::Port;
 
 /// Tries one connection, follows the search over its link, and hangs it up.
-pub(crate) fn run_round<R: Wait, P: Port, D: Dial, C: Clock>(
+pub(crate) fn run_round<R: Wait + Eprint, P: Port, D: Dial, C: Clock>(
     rt: &R,
     alloc: Global,
     port: &mut P,
@@ -32,7 +31,7 @@ pub(crate) fn run_round<R: Wait, P: Port, D: Dial, C: Clock>(
     requires filter { depth consumer.old.spec.filter ≤ 32 }
     ensures round { let state = link_by D.Link.bytes_left D.Link.bytes_read D.Link.bytes_held
         D.Link.read_fault_count D.Link.write_fault_count in
-        result ≢ NoMemory → DoesRound state (wanted_by consumer.old) address.now
+        TriesRound state (wanted_by consumer.old) address.now
         (D.dialled dial.old) (replica_at consumer.old.copy (P.state port.old) stored.old) result
         (D.dialled dial.new) (replica_at consumer.new.copy (P.state port.new) stored.new) }
     ensures home { P.home port.new ≡ P.home port.old }
@@ -48,7 +47,7 @@ pub(crate) fn run_round<R: Wait, P: Port, D: Dial, C: Clock>(
 }
 
 /// Follows the search over a link, and hangs it up.
-fn follow_over<R: Wait, P: Port, D: Dial, C: Clock>(
+fn follow_over<R: Wait + Eprint, P: Port, D: Dial, C: Clock>(
     rt: &R,
     alloc: Global,
     port: &mut P,
@@ -63,7 +62,7 @@ fn follow_over<R: Wait, P: Port, D: Dial, C: Clock>(
     requires came { IfSome (D.dialled dial.old) (λ d. length d.hung_up < d.came) }
     ensures follows { let state = link_by D.Link.bytes_left D.Link.bytes_read D.Link.bytes_held
         D.Link.read_fault_count D.Link.write_fault_count in
-        result ≢ NoMemory → FollowsLink state (wanted_by consumer.old) link
+        FollowsLink state (wanted_by consumer.old) link
         (D.dialled dial.old) (replica_at consumer.old.copy (P.state port.old) stored.old) result
         (D.dialled dial.new) (replica_at consumer.new.copy (P.state port.new) stored.new) }
     ensures home { P.home port.new ≡ P.home port.old }
@@ -80,6 +79,7 @@ fn follow_over<R: Wait, P: Port, D: Dial, C: Clock>(
         }
         Err((_, link)) => {
             dial.hang_up(link);
+            consumer.cut();
             RoundOutcome::NoMemory
         }
     }

@@ -69,8 +69,7 @@ impl Model for FaultySource {
 }
 
 impl FaultySource {
-    ghost use Rattle.sync_io.specs.FaultySource.{is_quiet, is_played, Plays, faults_after};
-    ghost use Rattle.sync_io.specs.declared.source.Piece.TheVariants.{Failed};
+    ghost use Rattle.sync_io.specs.FaultySource.{is_quiet, is_played};
 
     /// A source that plays these steps. It is one that waits where one of them is `Quiet`.
     pub fn new(mut steps: Vec<Step>) -> FaultySource
@@ -96,34 +95,6 @@ impl FaultySource {
         ensures later { self.old.faults ≤ self.new.faults }
     {
         count_fault(&mut self.faults);
-    }
-
-    fn play(&mut self, buffer: &mut [u8]) -> Piece
-        requires room { 0 < length buffer.old }
-        ensures step { Plays self.old.steps self.new.steps result buffer.new }
-        ensures count { FitsBuffer result buffer.new }
-        ensures quiet { result ≡ Quiet → IsTrue self.old.waits }
-        ensures waits { self.new.waits ≡ self.old.waits }
-        ensures faults { self.new.faults ≡ faults_after result self.old.faults }
-        ensures sound { result ≢ Failed → self.new.faults ≡ self.old.faults }
-        ensures later { self.old.faults ≤ self.new.faults }
-    {
-        let count = self.gift.fill(buffer);
-        if count > 0 {
-            return Piece::Got(count);
-        }
-        match self.steps.next() {
-            Some(Step::Give(bytes)) => {
-                self.gift = MemorySource::new(bytes);
-                Piece::Got(self.gift.fill(buffer))
-            }
-            Some(Step::Quiet) => Piece::Quiet,
-            Some(Step::Fail) => {
-                count_fault(&mut self.faults);
-                Piece::Failed
-            }
-            None => Piece::End,
-        }
     }
 }
 
@@ -175,6 +146,21 @@ impl Source for FaultySource {
         ensures sound { result ≢ Failed → self.new.faults ≡ self.old.faults }
         ensures later { self.old.faults ≤ self.new.faults }
     {
-        self.play(buffer)
+        let count = self.gift.fill(buffer);
+        if count > 0 {
+            return Piece::Got(count);
+        }
+        match self.steps.next() {
+            Some(Step::Give(bytes)) => {
+                self.gift = MemorySource::new(bytes);
+                Piece::Got(self.gift.fill(buffer))
+            }
+            Some(Step::Quiet) => Piece::Quiet,
+            Some(Step::Fail) => {
+                count_fault(&mut self.faults);
+                Piece::Failed
+            }
+            None => Piece::End,
+        }
     }
 }

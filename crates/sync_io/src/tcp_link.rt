@@ -9,11 +9,15 @@ use std::net::TcpStream;
 use std::time::Duration;
 use std::{io, mem};
 
-/// How many milliseconds a read waits at most, and how many after a write: whoever was just
-/// answered mostly has more to ask, and a search that stays mostly has more to send.
+/// How many milliseconds a read waits at most, and how many where bytes went a short while ago:
+/// whoever was just answered mostly has more to ask, and a search that stays mostly has more to
+/// send.
 const WAIT: u64 = 20;
 
-const WAIT_AFTER_WRITE: u64 = 1;
+const SHORT_WAIT: u64 = 1;
+
+/// How many reads after bytes went in or out wait shortly.
+const SHORT_READS: u8 = 16;
 
 /// After this many bytes a read does not wait: a system's clock may make eight milliseconds of one,
 /// and what was written together was mostly not all.
@@ -23,7 +27,10 @@ const LARGE: usize = 4_096;
 #[derive(Drop)]
 pub struct TcpLink {
     stream: TcpStream,
+    /// How many milliseconds the stream's reads wait.
     wait: u64,
+    /// How many of the next reads wait shortly.
+    short_reads: u8,
     /// How many bytes were written since the last read.
     written: usize,
     read_faults: u64,
@@ -40,6 +47,7 @@ impl TcpLink {
         TcpLink {
             stream,
             wait: 0,
+            short_reads: 0,
             written: 0,
             read_faults: 0,
             write_faults: 0,
@@ -56,7 +64,7 @@ impl TcpLink {
         if LARGE <= written {
             return self.read_at_once(buffer);
         }
-        let wait = if written == 0 { WAIT } else { WAIT_AFTER_WRITE };
+        let wait = next_wait(&mut self.short_reads);
         if wait != self.wait {
             self.stream
                 .set_read_timeout(Some(Duration::from_millis(wait)))?;
@@ -76,6 +84,15 @@ impl TcpLink {
         self.stream.set_nonblocking(false)?;
         found
     }
+}
+
+/// How many milliseconds the next read waits, where this many of the next wait shortly.
+fn next_wait(short_reads: &mut u8) -> u64 {
+    if *short_reads == 0 {
+        return WAIT;
+    }
+    *short_reads -= 1;
+    SHORT_WAIT
 }
 
 /// Whether a read ended because no byte came in its time.
@@ -104,7 +121,10 @@ impl Source for TcpLink {
     fn read(&mut self, buffer: &mut [u8]) -> Piece {
         match self.read_soon(buffer) {
             Ok(0) => Piece::End,
-            Ok(count) => Piece::Got(count),
+            Ok(count) => {
+                self.short_reads = SHORT_READS;
+                Piece::Got(count)
+            }
             Err(error) if is_quiet(&error) => Piece::Quiet,
             Err(_) => {
                 count_fault(&mut self.read_faults);
@@ -131,6 +151,7 @@ impl Sink for TcpLink {
     }
 
     fn write(&mut self, piece: &[u8]) -> Put {
+        self.short_reads = SHORT_READS;
         self.written = self.written.saturating_add(piece.len());
         match self.stream.write(piece) {
             Ok(0) | Err(_) => {

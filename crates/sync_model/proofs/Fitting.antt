@@ -24,20 +24,23 @@ use Rattle.sync_model.proofs.Later.{IsStep, NotifiedOne, notified_one, one_stage
 
 -- ---- messages that meet no limit
 
+-- none of these messages meets a limit
 abbrev pub AllFit : ℕ → Copy → List SyncMessage → Type 0
 AllFit id copy [] = ⊤
 AllFit id copy (message ∷ messages) = (limit_fault (puts_entry message) (taken id copy message).0 (taken id copy message).1 ≡ None) × AllFit id (taken id copy message).0 messages
 
-fit-append : (messages more : List SyncMessage) (id : ℕ) (copy : Copy) → AllFit id copy messages → AllFit id (taken_all id copy messages) more → AllFit id copy (messages ++ more)
+-- what fits and what fits after it fit together
+pub fit-append : (messages more : List SyncMessage) (id : ℕ) (copy : Copy) → AllFit id copy messages → AllFit id (taken_all id copy messages) more → AllFit id copy (messages ++ more)
 fit-append [] more id copy one other = other
 fit-append (message ∷ messages) more id copy one other = (one.0, fit-append messages more id (taken id copy message).0 one.1 other)
 
-fit-prefix : (messages more : List SyncMessage) (id : ℕ) (copy : Copy) → AllFit id copy (messages ++ more) → AllFit id copy messages
+-- a prefix of what fits fits
+pub fit-prefix : (messages more : List SyncMessage) (id : ℕ) (copy : Copy) → AllFit id copy (messages ++ more) → AllFit id copy messages
 fit-prefix [] more id copy fit = tt
 fit-prefix (message ∷ messages) more id copy fit = (fit.0, fit-prefix messages more id (taken id copy message).0 fit.1)
 
 -- they are taken as without limits
-within_same : (messages : List SyncMessage) (id : ℕ) (copy : Copy) → AllFit id copy messages
+pub within_same : (messages : List SyncMessage) (id : ℕ) (copy : Copy) → AllFit id copy messages
     → (taken_all_within id copy messages ≡ taken_all id copy messages) × (answers_within id copy messages ≡ answers id copy messages)
 within_same [] id copy fit = (refl, refl)
 within_same (message ∷ messages) id copy fit =
@@ -92,7 +95,8 @@ end_puts_none true true cookie = refl
 end_puts_none true false cookie = refl
 end_puts_none false deletes cookie = refl
 
-end_fits : (persists deletes : Bool) (cookie : CookieText) (id : ℕ) (copy : Copy) → IsWithinLimits (taken_all id copy (end_of persists deletes cookie ∷ [])).held → AllFit id copy (end_of persists deletes cookie ∷ [])
+-- the end of a refresh fits where what is held then is within the limits
+pub end_fits : (persists deletes : Bool) (cookie : CookieText) (id : ℕ) (copy : Copy) → IsWithinLimits (taken_all id copy (end_of persists deletes cookie ∷ [])).held → AllFit id copy (end_of persists deletes cookie ∷ [])
 end_fits persists deletes cookie id copy within =
     let outcome : Copy × Answer = taken id copy (end_of persists deletes cookie) in
     (ap (λ puts. limit_fault puts outcome.0 outcome.1) (end_puts_none persists deletes cookie) ∙ no_put outcome.0 outcome.1 (nothing_against outcome.0.held within), tt)
@@ -141,7 +145,8 @@ module _ (operation : SyncOperation) (ascending : Ascending operation) (within :
   pub content_within : (number : ℕ) → IsWithinLimits (content_after operation number)
   content_within number = within_filter (is_selected operation.selection) (operation.states number) (within number)
 
-  later_fits : (count id from : ℕ) (ended : Bool) (cookie : Option CookieText) → AllFit id (settled id true ended (content_after operation from) cookie) (later operation from count)
+  -- nor does what later writes send
+  pub later_fits : (count id from : ℕ) (ended : Bool) (cookie : Option CookieText) → AllFit id (settled id true ended (content_after operation from) cookie) (later operation from count)
   later_fits zero id from ended cookie = tt
   later_fits (suc count) id from ended cookie =
       fit-append (later operation from count) (group operation (from + count)) id (settled id true ended (content_after operation from) cookie)

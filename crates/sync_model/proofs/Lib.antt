@@ -2,6 +2,7 @@
 pub mod WithoutCookie
 pub mod Examples
 pub mod FewNames
+pub mod Filling
 pub mod Fitting
 pub mod Prefixes
 pub mod Gather

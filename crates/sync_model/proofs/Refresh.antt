@@ -156,7 +156,8 @@ module _ (operation : SyncOperation) (asc : Ascending operation) where
       (λ on. silent-pieces ps start r e s.mark u (omega (arith, p, h.0)) h.1 q z.1 on)
       (or_cases _ _ (sym (among-append u s.uuids (flat_map (λ p. p.uuids) ps)) ∙ j))
 
-  each-late : (us : List ℕ) (e : ℕ) → EachD (λ x. found e x.uuid ≡ Some x) (λ u. found e u ≡ None) (flat_map (decide_late operation e) us)
+  -- the late part sends what is there at the last mark, and names what is not
+  pub each-late : (us : List ℕ) (e : ℕ) → EachD (λ x. found e x.uuid ≡ Some x) (λ u. found e u ≡ None) (flat_map (decide_late operation e) us)
   each-late [] e = tt
   each-late (u ∷ us) e = eachd-append (λ x. found e x.uuid ≡ Some x) (λ v. found e v ≡ None) (decide_late operation e u) (flat_map (decide_late operation e) us) (step (found e u) refl) (each-late us e) where
     step : (x : Option Entry) → found e u ≡ x → EachD (λ y. found e y.uuid ≡ Some y) (λ v. found e v ≡ None) (decided true true u x)

@@ -7,9 +7,10 @@ use Rattle.entry_tree.specs.State.{ascends, total_weight, most_entries, most_wei
 use Rattle.sync_model.specs.Message.{CookieText, SyncMessage}
 use Rattle.sync_model.specs.Stream.{SyncOperation, Start, RefreshPiece, content_after, walk, last_mark, refresh, group, later, stream}
 use Rattle.sync_model.specs.Stream.Start.{InitialContent, DeletePhase, PresentPhase}
-use Rattle.sync_model.specs.Copy.{SyncSession, Copy, asked, taken_all, answers}
+use Rattle.sync_model.specs.Copy.{SyncSession, Copy, asked, refused, taken, taken_all, answers}
+use Rattle.sync_model.specs.Copy.Fault.{StageFull}
 use Rattle.sync_model.specs.Keeping.{KeepsEntriesAndCookie}
-use Rattle.sync_model.specs.Within.{same_named, taken_all_within, answers_within}
+use Rattle.sync_model.specs.Within.{exceeds_limits, same_named, puts_entry, staged_puts, taken_within, taken_all_within, answers_within}
 
 -- each state is in ascending order of identity
 abbrev pub Ascending : SyncOperation → Type 0
@@ -150,3 +151,39 @@ PrefixFits =
     ≡ taken_all id (asked id operation.persists copy) prefix)
     × (answers_within id (asked id operation.persists copy) prefix
     ≡ answers id (asked id operation.persists copy) prefix)
+
+-- ---- in several pieces
+
+-- the message after these is refused as StageFull: it puts an entry, with which the entries staged
+-- as puts are more, or heavier, than a directory may have; those before it met no limit
+pub record FillsStage
+    (id : ℕ) (copy : Copy) (before : List SyncMessage) (message : SyncMessage) : Type 0 where
+  pub copy_within : taken_all_within id copy before ≡ taken_all id copy before
+  pub same_answers : answers_within id copy before ≡ answers id copy before
+  pub puts : puts_entry message ≡ true
+  pub full :
+      exceeds_limits (staged_puts (taken id (taken_all id copy before) message).0.session) ≡ true
+  pub refused :
+      taken_within id (taken_all id copy before) message
+      ≡ refused (taken_all id copy before) StageFull
+
+-- some messages meet no limit, or one of them fills the stage
+abbrev pub FitsOrFills : ℕ → Copy → List SyncMessage → Type 0
+FitsOrFills id copy messages =
+    ((taken_all_within id copy messages ≡ taken_all id copy messages)
+    × (answers_within id copy messages ≡ answers id copy messages))
+    ⊎ ((before : List SyncMessage) × (message : SyncMessage) × (after : List SyncMessage)
+    × (messages ≡ before ++ message ∷ after) × FillsStage id copy before message)
+
+-- what a directory that keeps within its limits sends in any number of pieces meets no limit of a
+-- copy but that of its stage
+abbrev pub PrefixFitsOrFills : Type 0
+PrefixFitsOrFills =
+    (operation : SyncOperation) → Ascending operation
+    → ((number : ℕ) → IsWithinLimits (operation.states number))
+    → (id : ℕ) (start : Start) (accepted : ℕ) (pieces : List RefreshPiece) (count : ℕ) (copy : Copy)
+    (prefix rest : List SyncMessage)
+    → IsCut operation start accepted pieces
+    → MayBegin operation start accepted copy.held
+    → prefix ++ rest ≡ stream operation start accepted pieces count
+    → FitsOrFills id (asked id operation.persists copy) prefix

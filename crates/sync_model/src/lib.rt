@@ -2,7 +2,7 @@
 //! make of a copy. There is no code here but the functions that carry the laws.
 #![tactic(auto)]
 
-ghost use Rattle.sync_model.specs.Law.{HistoriesAscend, RefreshEnds, LaterEnds, PrefixShows, PrefixFits};
+ghost use Rattle.sync_model.specs.Law.{HistoriesAscend, RefreshEnds, LaterEnds, PrefixShows, PrefixFits, PrefixFitsOrFills};
 ghost use Rattle.sync_model.specs.Incremental.{IncrementalRefresh, LaterNotified};
 ghost use Rattle.sync_model.specs.Keeping.{TakingKeeps};
 ghost use Rattle.sync_model.specs.Examples.{EmptyIsEnded, AddedIsSent, DeletedIsNamed, DeletedIsWalked, KeptIsNamed, MessagesAreAnswered};
@@ -36,6 +36,13 @@ pub fn prefix_shows()
 /// wherever it is cut off.
 pub fn prefix_fits()
     ensures { PrefixFits }
+{}
+
+/// What a directory that keeps within its limits sends in several pieces meets no limit of a copy
+/// but one: the entries staged as puts may be more, or heavier, than a directory may have, since
+/// each was there at the piece that sent it and not all at once.
+pub fn prefix_fits_or_fills()
+    ensures { PrefixFitsOrFills }
 {}
 
 /// A refresh from a cookie sends an entry whole only where a write after those of that cookie, and

@@ -1,5 +1,5 @@
 -- What each end of a search brings.
-use Rattle.std.proofs.Common.{◌≡◌, ◌⊎◌, List, Option, Result, Ok, Err, inl, inr, refl, sym, subst, arith}
+use Rattle.std.proofs.Common.{◌≡◌, ◌≢◌, ◌⊎◌, List, Option, Result, Ok, Err, ap, inl, inr, refl, sym, subst, arith}
 use Rattle.std.specs.Prelude.{IfOk}
 use Rattle.dn_names.specs.Names.{TypeAndValue}
 use Rattle.dn_names.specs.Reading.{IsNameFault, name_of_text}
@@ -11,7 +11,8 @@ use Rattle.ldap_filter.specs.Fault.{FilterFails}
 use Rattle.ldap_filter.specs.Reading.{read_filter}
 use Rattle.ldap_filter.specs.declared.fault.FilterFault.{FilterFault}
 use Rattle.ldap_filter.specs.declared.fault.FilterFault.TheVariants as filter
-use Rattle.ldap_search.specs.Calls.{Searches}
+use Rattle.ldap_search.specs.Calls.{Searches, SearchesInPart}
+use Rattle.ldap_search.specs.Talks.{OutputState}
 use Rattle.ldap_search.specs.declared.end.SearchEnd.{SearchEnd}
 use Rattle.ldap_search.specs.declared.end.SearchEnd.TheVariants.{Done, OutputFault, NetFault, PeerFault}
 use Rattle.sync_io.specs.Dial.{Dialled}
@@ -83,8 +84,10 @@ module _ {L C M : Type 0} {seen : M → LinkState} {dialled : C → Option (Dial
     quiet = λ is. absurd (omega (arith, three, is));
     refused = λ is. why;
     write_fault = λ is. absurd (omega (arith, three, is));
+    output_sound = λ other. ap (λ (o : OutputState). o.faults) why.unprinted;
     write_fault_reported = λ is. absurd (omega (arith, three, is));
     net_fault = λ is. absurd (omega (arith, three, is));
+    net_sound = λ other. why.faultless;
     net_fault_reported = λ is. absurd (omega (arith, three, is));
     peer_fault = λ is. absurd (omega (arith, three, is));
     peer_fault_reported = λ is. absurd (omega (arith, three, is));
@@ -95,51 +98,60 @@ module _ {L C M : Type 0} {seen : M → LinkState} {dialled : C → Option (Dial
       → Searches seen dialled asked.address spec asked.count before.served before.output end after.served after.output
       → SaysEnd end status.code before.said after.said before.said_faults after.said_faults
       → (end ≡ OutputFault → CountHasRisen before.output.faults after.output.faults) → (end ≡ NetFault → CountHasRisen before.net_faults after.net_faults)
+      → (end ≢ OutputFault → after.output.faults ≡ before.output.faults) → (end ≢ NetFault → after.net_faults ≡ before.net_faults)
       → MaySearch seen dialled asked before after status
-  search_ended spec Done read searches says output net = record {
+  search_ended spec Done read searches says output net output_rest net_rest = record {
     codes_are = inl says.0;
     done = λ is. record { spec = spec; read = read; searches = searches };
     quiet = λ is. says.1;
     refused = λ is. absurd (omega (arith, says.0, is));
     write_fault = λ is. absurd (omega (arith, says.0, is));
+    output_sound = λ other. output_rest (λ e. let never : ⊥ = cc in never);
     write_fault_reported = λ is. absurd (omega (arith, says.0, is));
     net_fault = λ is. absurd (omega (arith, says.0, is));
+    net_sound = λ other. net_rest (λ e. let never : ⊥ = cc in never);
     net_fault_reported = λ is. absurd (omega (arith, says.0, is));
     peer_fault = λ is. absurd (omega (arith, says.0, is));
     peer_fault_reported = λ is. absurd (omega (arith, says.0, is));
   }
-  search_ended spec OutputFault read searches says output net = record {
+  search_ended spec OutputFault read searches says output net output_rest net_rest = record {
     codes_are = inr (inr (inl says.0));
     done = λ is. absurd (omega (arith, says.0, is));
     quiet = λ is. absurd (omega (arith, says.0, is));
     refused = λ is. absurd (omega (arith, says.0, is));
     write_fault = λ is. (output refl, record { spec = spec; read = read; searches = searches });
+    output_sound = λ other. absurd (other says.0);
     write_fault_reported = λ is. says.1;
     net_fault = λ is. absurd (omega (arith, says.0, is));
+    net_sound = λ other. net_rest (λ e. let never : ⊥ = cc in never);
     net_fault_reported = λ is. absurd (omega (arith, says.0, is));
     peer_fault = λ is. absurd (omega (arith, says.0, is));
     peer_fault_reported = λ is. absurd (omega (arith, says.0, is));
   }
-  search_ended spec NetFault read searches says output net = record {
+  search_ended spec NetFault read searches says output net output_rest net_rest = record {
     codes_are = inr (inr (inr (inl says.0)));
     done = λ is. absurd (omega (arith, says.0, is));
     quiet = λ is. absurd (omega (arith, says.0, is));
     refused = λ is. absurd (omega (arith, says.0, is));
     write_fault = λ is. absurd (omega (arith, says.0, is));
+    output_sound = λ other. output_rest (λ e. let never : ⊥ = cc in never);
     write_fault_reported = λ is. absurd (omega (arith, says.0, is));
     net_fault = λ is. (net refl, record { spec = spec; read = read; searches = searches });
+    net_sound = λ other. absurd (other says.0);
     net_fault_reported = λ is. says.1;
     peer_fault = λ is. absurd (omega (arith, says.0, is));
     peer_fault_reported = λ is. absurd (omega (arith, says.0, is));
   }
-  search_ended spec PeerFault read searches says output net = record {
+  search_ended spec PeerFault read searches says output net output_rest net_rest = record {
     codes_are = inr (inr (inr (inr says.0)));
     done = λ is. absurd (omega (arith, says.0, is));
     quiet = λ is. absurd (omega (arith, says.0, is));
     refused = λ is. absurd (omega (arith, says.0, is));
     write_fault = λ is. absurd (omega (arith, says.0, is));
+    output_sound = λ other. output_rest (λ e. let never : ⊥ = cc in never);
     write_fault_reported = λ is. absurd (omega (arith, says.0, is));
     net_fault = λ is. absurd (omega (arith, says.0, is));
+    net_sound = λ other. net_rest (λ e. let never : ⊥ = cc in never);
     net_fault_reported = λ is. absurd (omega (arith, says.0, is));
     peer_fault = λ is. record { spec = spec; read = read; searches = searches };
     peer_fault_reported = λ is. says.1;
@@ -184,5 +196,6 @@ module _ {L C M E : Type 0} {seen : M → LinkState} {dialled : C → Option (Di
   }
 
   -- after base and filter were read
-  pub runs_out_asked : (spec : Search) → IsReadAs asked spec → EndsSearch seen dialled asked before after (Err none)
-  runs_out_asked spec read = record { with_status = tt; complete = tt; without_memory = record { stops = inr (spec, read) } }
+  pub runs_out_asked : (spec : Search) → IsReadAs asked spec → SearchesInPart seen dialled asked.address spec asked.count before.served before.output after.served after.output
+      → EndsSearch seen dialled asked before after (Err none)
+  runs_out_asked spec read searches = record { with_status = tt; complete = tt; without_memory = record { stops = inr (spec, read, searches) } }

@@ -1,6 +1,6 @@
 -- How `serve FILE` ends, by how serving what its configuration says does.
-use Rattle.std.proofs.Common.{◌≡◌, ◌≢◌, ◌⊎◌, ◌<◌, ℕ, List, Result, Ok, Err, inl, inr, refl, sym, ◌∙◌, arith}
-use Rattle.std.specs.Prelude.{IfOk, OnErr}
+use Rattle.std.proofs.Common.{◌≡◌, ◌≢◌, ◌⊎◌, ◌<◌, ℕ, List, Result, Ok, Err, inl, inr, refl, sym, ap, subst, ◌∙◌, arith}
+use Rattle.std.specs.Prelude.{IfOk, IsSome, OnErr}
 use Rattle.std.specs.Io.KnownBytes.{Keeps}
 use Rattle.sync_io.specs.Faults.{CountHasRisen}
 use Rattle.sync_io.specs.declared.dial.NetFault.{NetFault}
@@ -10,9 +10,10 @@ use Rattle.directory_setup.specs.declared.refusal.LineCause.TheVariants as line
 use Rattle.directory_setup.specs.declared.refusal.SetupRefusal.{SetupRefusal}
 use Rattle.directory_setup.specs.declared.refusal.SetupRefusal.TheVariants.{AtLine, InConfig}
 use Rattle.directory_setup.specs.declared.setup.ReadyDirectory.{ReadyDirectory}
+use Rattle.directory_setup.proofs.OneRefusal.{one_refusal, refused_unready}
 use Rattle.ldap_listener.specs.Seats.{CountsFaults}
 use Rattle.syncrepl_tool.specs.Serving.{AnyEnd, EndsAt, HasListened, HasMemory, IsServedAt, NetView}
-use Rattle.syncrepl_tool.specs.Serve.{AllCame, EndsReady, EndsServing, FailsAtNet, HasNoCause, IsCutShort, IsRefusedWith, IsServeStatus, IsUnheard, MayServe, MayServeWith, NetSide, Outside, RunsOut, RunsOutReady, net_fault_text, net_side, refusal_status, setup_refusal_text}
+use Rattle.syncrepl_tool.specs.Serve.{AllCame, EndsReady, EndsServing, FailsAtNet, HasFiles, HasNoCause, IsCutShort, IsRefusedWith, IsSaid, IsServeStatus, IsUnheard, MayServe, MayServeWith, NetSide, Outside, RunsOut, RunsOutReady, SaysText, net_fault_text, net_side, refusal_status, setup_refusal_text}
 use Rattle.syncrepl_tool.specs.Texts.{Says, read_fault_text}
 use Rattle.syncrepl_tool.specs.declared.run.Status.{Status}
 
@@ -87,11 +88,45 @@ completes v name before after status may none = by may.codes_are
     by (inr (inr (inr (inl seven)))) = absurd (none.net (may.net_fault seven))
     by (inr (inr (inr (inr eight)))) = let r = may.limited eight in absurd (none.unrefused r.refusal r.refused)
 
+-- a directory that was served, or listened for, is none whose configuration or file is refused
+ready_refused : {L C M : Type 0} (v : NetView L C M) (name : List ℕ) (before after : Outside L C M) (refusal : SetupRefusal)
+    → IsSome before.files → IsRefusedSetup before.files name refusal → FailsAtNet v name before after → ⊥
+ready_refused v name before after refusal known refused (inl unheard) = refused_unready before.files name refusal unheard.ready known refused unheard.is_ready
+ready_refused v name before after refusal known refused (inr cut) = refused_unready before.files name refusal cut.ready known refused cut.is_ready
+
+-- what is refused is said
+is_said : {L C M : Type 0} (v : NetView L C M) (name : List ℕ) (before after : Outside L C M) (status : Status) (code : ℕ) (refusal : SetupRefusal)
+    → IsSome before.files → IsRefusedSetup before.files name refusal → status.code ≡ code → IsRefusedWith name before after code
+    → IsSaid refusal before after status
+is_said v name before after status code refusal known refused is one =
+    let same : one.refusal ≡ refusal = one_refusal before.files name one.refusal refusal known one.refused refused in
+    record {
+      code = is ∙ sym one.status ∙ ap refusal_status same;
+      says = subst (λ (given : SetupRefusal). SaysText (setup_refusal_text given) before after) same one.says;
+    }
+
+refusals : {L C M : Type 0} (v : NetView L C M) (name : List ℕ) (before after : Outside L C M) (status : Status)
+    → MayServeWith v name before after status → HasFiles before after → (refusal : SetupRefusal) → IsRefusedSetup before.files name refusal
+    → IsSaid refusal before after status
+refusals v name before after status may files refusal refused = by may.codes_are
+  where
+    failed : CountHasRisen before.shelf_faults after.shelf_faults ⊎ CountHasRisen before.word_faults after.word_faults → ⊥
+    failed (inl shelf) = files.shelf shelf
+    failed (inr words) = files.words words
+
+    by : IsServeStatus status.code → IsSaid refusal before after status
+    by (inl zero) = let served = may.done zero in absurd (refused_unready before.files name refusal served.ready files.reported refused served.is_ready)
+    by (inr (inl three)) = is_said v name before after status 3 refusal files.reported refused three (may.refused three)
+    by (inr (inr (inl four))) = absurd (failed (may.read_fault four))
+    by (inr (inr (inr (inl seven)))) = absurd (ready_refused v name before after refusal files.reported refused (may.cut_short seven))
+    by (inr (inr (inr (inr eight)))) = is_said v name before after status 8 refusal files.reported refused eight (may.limited eight)
+
 ends_with : {L C M E : Type 0} (v : NetView L C M) (name : List ℕ) (before after : Outside L C M) (status : Status)
     → MayServeWith v name before after status → EndsServing {E = E} v name before after (Ok status)
 ends_with v name before after status may = record {
   with_status = may;
   complete = completes v name before after status may;
+  refuses = refusals v name before after status may;
   without_memory = tt;
 }
 
@@ -104,6 +139,7 @@ served_ready v name before after ready (Ok status) is came ends =
 served_ready v name before after ready (Err none) is came ends = record {
   with_status = tt;
   complete = tt;
+  refuses = tt;
   without_memory = runs_out v name before after ready is ends.without_memory;
 }
 
@@ -115,6 +151,7 @@ pub runs_out_first : {L C M E : Type 0} (v : NetView L C M) (name : List ℕ) (b
 runs_out_first v name before after none unasked same = record {
   with_status = tt;
   complete = tt;
+  refuses = tt;
   without_memory = record { faultless = same; stops = inl unasked };
 }
 

@@ -1,5 +1,5 @@
 -- What `search ADDRESS BASE SCOPE FILTER [COUNT]` asks, prints and says.
-use Rattle.std.specs.Prelude.{◌≡◌, ◌⊎◌, ◌≤◌, ℕ, Bool, false, nat_eq, List, [], ◌∷◌, ◌++◌, Option, Some, None, Result, Ok, Err, IfOk, OnErr, codes}
+use Rattle.std.specs.Prelude.{◌≡◌, ◌≢◌, ◌⊎◌, ◌≤◌, ℕ, Bool, false, nat_eq, List, [], ◌∷◌, ◌++◌, Option, Some, None, Result, Ok, Err, IfOk, OnErr, codes}
 use Rattle.std.specs.Fmt.{decimal}
 use Rattle.std.specs.Io.KnownBytes.{Keeps}
 use Rattle.std.specs.List.{starts_with}
@@ -17,7 +17,7 @@ use Rattle.ldap_client.specs.Links.{LinkState}
 use Rattle.ldap_filter.specs.Reading.{read_filter}
 use Rattle.ldap_filter.specs.declared.fault.FilterFault.{FilterFault}
 use Rattle.ldap_filter.specs.declared.fault.FilterFault.TheVariants as filter
-use Rattle.ldap_search.specs.Calls.{Searches}
+use Rattle.ldap_search.specs.Calls.{Searches, SearchesInPart}
 use Rattle.ldap_search.specs.Talks.{OutputState}
 use Rattle.ldap_search.specs.declared.end.SearchEnd.{SearchEnd}
 use Rattle.ldap_search.specs.declared.end.SearchEnd.TheVariants.{Done, OutputFault, NetFault, PeerFault}
@@ -167,11 +167,13 @@ pub record MaySearch {L C M : Type 0}
   pub write_fault : status.code ≡ 5
       → CountHasRisen before.output.faults after.output.faults
       × IsAsked seen dialled asked before after OutputFault
+  pub output_sound : status.code ≢ 5 → after.output.faults ≡ before.output.faults
   pub write_fault_reported : status.code ≡ 5
       → Says write_fault_text before.said after.said before.said_faults after.said_faults
   pub net_fault : status.code ≡ 7
       → CountHasRisen before.net_faults after.net_faults
       × IsAsked seen dialled asked before after NetFault
+  pub net_sound : status.code ≢ 7 → after.net_faults ≡ before.net_faults
   pub net_fault_reported : status.code ≡ 7
       → Says net_fault_text before.said after.said before.said_faults after.said_faults
   pub peer_fault : status.code ≡ 9 → IsAsked seen dialled asked before after PeerFault
@@ -193,13 +195,17 @@ pub record DecidesSearch {L C M : Type 0}
       → (status.code ≡ 0)
       ⊎ ((status.code ≡ 9) × IsAsked seen dialled asked before after PeerFault)
 
--- memory ran out before anything was asked or printed, or after base and filter were read
+-- memory ran out before anything was asked or printed; or base and filter were read, and the search
+-- was asked and its answer printed in part
 pub record RunsOutSearch {L C M : Type 0}
+    (seen : M → LinkState) (dialled : C → Option (Dialled M))
     (asked : SearchAsked) (before after : SearchSide L C M) : Type 0 where
   pub stops :
       ((after.served ≡ before.served) × (after.net_faults ≡ before.net_faults)
       × (after.output ≡ before.output))
-      ⊎ ((spec : Search) × IsReadAs asked spec)
+      ⊎ ((spec : Search) × IsReadAs asked spec
+      × SearchesInPart seen dialled asked.address spec asked.count
+      before.served before.output after.served after.output)
 
 -- how `search` ends
 pub record EndsSearch {L C M E : Type 0}
@@ -208,4 +214,4 @@ pub record EndsSearch {L C M E : Type 0}
     : Type 0 where
   pub with_status : IfOk answer (MaySearch seen dialled asked before after)
   pub complete : IfOk answer (DecidesSearch seen dialled asked before after)
-  pub without_memory : OnErr answer (RunsOutSearch asked before after)
+  pub without_memory : OnErr answer (RunsOutSearch seen dialled asked before after)

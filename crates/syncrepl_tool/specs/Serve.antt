@@ -1,5 +1,5 @@
 -- What `serve FILE` reads, serves and says.
-use Rattle.std.specs.Prelude.{◌≡◌, ◌≢◌, ◌⊎◌, ◌<◌, ℕ, Bool, nat_eq, false, List, [], ◌∷◌, ◌++◌, Option, Result, IfOk, OnErr, codes}
+use Rattle.std.specs.Prelude.{◌≡◌, ◌≢◌, ◌⊎◌, ◌<◌, ℕ, Bool, nat_eq, false, List, [], ◌∷◌, ◌++◌, Option, IsSome, Result, IfOk, OnErr, codes}
 use Rattle.std.specs.Fmt.{decimal}
 use Rattle.std.specs.List.{starts_with}
 use Rattle.std.specs.Io.KnownBytes.{Keeps}
@@ -232,10 +232,28 @@ pub record HasNoCause {L C M : Type 0}
   pub words : CountHasRisen before.word_faults after.word_faults → ⊥
   pub net : CountHasRisen before.net_faults after.net_faults → ⊥
 
--- how `serve FILE` ends: without a cause for another end all connections were served
+-- the shelf reports its files, and neither a file nor a random word failed to come
+pub record HasFiles {L C M : Type 0} (before after : Outside L C M) : Type 0 where
+  pub reported : IsSome before.files
+  pub shelf : CountHasRisen before.shelf_faults after.shelf_faults → ⊥
+  pub words : CountHasRisen before.word_faults after.word_faults → ⊥
+
+-- a refusal of the configuration or of its file is said, with its status
+pub record IsSaid {L C M : Type 0}
+    (refusal : SetupRefusal) (before after : Outside L C M) (status : Status) : Type 0 where
+  pub code : status.code ≡ refusal_status refusal
+  pub says : SaysText (setup_refusal_text refusal) before after
+
+-- how `serve FILE` ends: without a cause for another end all connections were served, and what is
+-- refused of the files that came is said
 pub record EndsServing {L C M E : Type 0}
     (v : NetView L C M) (name : List ℕ) (before after : Outside L C M) (answer : Result Status E)
     : Type 0 where
   pub with_status : IfOk answer (MayServeWith v name before after)
   pub complete : IfOk answer (λ status. HasNoCause name before after → status.code ≡ 0)
+  pub refuses :
+      IfOk answer
+      (λ status. HasFiles before after
+      → (refusal : SetupRefusal) → IsRefusedSetup before.files name refusal
+      → IsSaid refusal before after status)
   pub without_memory : OnErr answer (RunsOut v name before after)

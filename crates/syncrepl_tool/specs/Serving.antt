@@ -44,8 +44,8 @@ HasMemory end = end ≢ node.NoMemory
 abbrev pub AnyEnd : NodeEnd → Type 0
 AnyEnd end = Unit {0}
 
--- The same, while the upstream was followed at one more port of the directory: by one caller, which
--- the net gave and which was let go. Out of memory nothing is said of what was followed.
+-- the same, while the upstream was followed at one more port of the directory: by one caller, which
+-- the net gave and which was let go
 pub record IsServedBeside {L C M : Type 0}
     (v : NetView L C M) (MayEnd : NodeEnd → Type 0) (access : Access) (seats : ℕ)
     (old : JournalledProvider) (upstream : Upstream) (rounds : ℕ) (n : ℕ)
@@ -59,7 +59,7 @@ pub record IsServedBeside {L C M : Type 0}
   pub between : Option (Served L C M)
   pub serves :
       ServesBeside v.links access seats old last n (option_map (calls true) before) between
-      (λ port left. end ≢ node.NoMemory → Follows v.called upstream.address
+      (λ port left. Follows v.called upstream.address
       (record { spec = search_of upstream.spec; reload = upstream.reload_hint })
       rounds port first end left (v.dialled caller))
   pub let_go : after ≡ option_map (lets_go caller) between

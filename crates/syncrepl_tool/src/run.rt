@@ -38,7 +38,7 @@ pub struct Status {
 /// Does what the words say. They leave out the program's name. It is `NoMemory` where memory runs
 /// out, but never for words of no form.
 pub fn run<
-    R: Threads + Wait + Sync,
+    R: Threads + Wait + Eprint + Sync,
     I: Source,
     O: Sink,
     E: Sink,

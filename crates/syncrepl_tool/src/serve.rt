@@ -31,7 +31,7 @@ use sync_io::{Clock, Net, NetFault, Shelf, Sink, Words};
 /// connection. Where the configuration names another directory, that is followed meanwhile. It is
 /// `NoMemory` where memory runs out.
 pub fn serve_with<
-    R: Threads + Wait + Sync,
+    R: Threads + Wait + Eprint + Sync,
     E: Sink,
     F: Shelf,
     N: Net,

@@ -94,7 +94,7 @@ fn words_of(alloc: Global) -> Result<FixedWords, NoMemory> {
 }
 
 /// The status of a directory that is served, and what was said.
-fn served<R: Threads + Wait + Sync, G: Gate + Sync>(
+fn served<R: Threads + Wait + Eprint + Sync, G: Gate + Sync>(
     rt: &R,
     alloc: Global,
     files: &[(&str, &[u8])],
@@ -143,6 +143,7 @@ fn two_connections_at_once(rt: HostRuntime) -> Result<(), Fail> {
     };
     let (code, _) = served(&rt, alloc, &[("serve.toml", config)], &mut net, &gate)?;
     assert!(rt; code == 0 && gate.given_up.load(Ordering::SeqCst) == 0);
+    assert!(rt; gate.come.load(Ordering::SeqCst) == 1);
     assert!(rt; net.released().len() == 2);
     let (mut once, mut twice) = (false, false);
     for link in net.released() {

@@ -29,7 +29,7 @@ pub returns-clause-configures : goal.returns-clause-configures
 returns-clause-configures g c = (
   c.in-Text.text,
   rw c.in-Text.is at c.in_ok-found.ensures.text,
-  inr (c.in-Err.fault, c.in_ok-refusal-in-Err.ensures.0, rw c.as_slice-bytes.ensures at c.in-Err.ensures.fault, c.in_ok-refusal-in-Err.ensures.1),
+  inr (sym (rw c.as_slice-bytes.ensures at c.in_default.ensures), c.in-Err.fault, c.in_ok-refusal-in-Err.ensures.0, rw c.as_slice-bytes.ensures at c.in-Err.ensures.fault, c.in_ok-refusal-in-Err.ensures.1),
 )
 
 pub returns-in-Some-clause-sound : goal.returns-in-Some-clause-sound

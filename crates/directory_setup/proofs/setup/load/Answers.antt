@@ -35,7 +35,7 @@ returns-clause-loads g c =
     rw c.in-Some.is (
       c.in-Text.text,
       rw (c.in-Text.is, c.as_str.ensures) at c.in_ok-found.ensures.text,
-      inr (c.in-Refused.line, c.in-Refused.cause, _, rw (c.in-Refused.is, c.as_slice-bytes.ensures) at c.in_ok-filling.ensures.fills, refl),
+      inr (sym (rw c.as_slice-bytes.ensures at c.in_default-too_long.ensures), c.in-Refused.line, c.in-Refused.cause, _, rw (c.in-Refused.is, c.as_slice-bytes.ensures) at c.in_ok-filling.ensures.fills, refl),
     )
 
 pub returns-in-Some-too_long-clause-sound : goal.returns-in-Some-too_long-clause-sound

@@ -1,4 +1,4 @@
-use Rattle.std.proofs.Common.{List, inr, refl, subst, sym}
+use Rattle.std.proofs.Common.{List, inr, refl, rules, subst, sym}
 use Rattle.dn_names.specs.Names.{TypeAndValue}
 use Rattle.sync_provider.specs.declared.provider.Kind.{Kind}
 use Rattle.directory_setup.specs.Setup.{FailsOn, HasFilter, HasSeats, IsEmpty, Makes}
@@ -27,26 +27,33 @@ returns-in-Ok-clause-makes g c =
       placed = has_suffix c.requires.read.0 c.args.config c.requires.read.1;
       empty = subst (λ (place : List (List TypeAndValue) × Kind). IsEmpty place.0 place.1 c.args.config.sid
           (record { log = c.args.config.log_limit; queue = c.args.config.queue_limit }) c.in-Some.provider)
-          c.place_of-place.ensures (rw c.in-Some.is at c.in_ok-first.ensures.first);
+          c.place_of-place.ensures (rw (c.in-Some.is, c.queue_limits-limits.ensures) at c.in_ok-provider.ensures.first);
     })
     c.in-Ok.ensures.loads refl c.in_ok-access.ensures refl refl refl refl)
 
-pub returns-in-Ok-clause-seats : goal.returns-in-Ok-clause-seats
-returns-in-Ok-clause-seats g c =
-    subst (λ setup. HasSeats setup) (sym c.setup_of.ensures) (has_seats c.in-Ok.loading _ (seats_within c.requires.read.0 c.args.config c.requires.read.1))
-
-pub returns-in-Ok-clause-filter : goal.returns-in-Ok-clause-filter
-returns-in-Ok-clause-filter g c =
-    subst (λ setup. HasFilter setup) (sym c.setup_of.ensures) (has_filter c.in-Ok.loading _ c.requires.filter)
-
-pub returns-in-Ok-clause-failed : goal.returns-in-Ok-clause-failed
-returns-in-Ok-clause-failed g c =
+pub returns-in-Ok-clause-servable : goal.returns-in-Ok-clause-servable
+returns-in-Ok-clause-servable g c =
     let shelf = g.F.Shelf.shelf_fault_count c.args.shelf.now in
     let shelf' = g.F.Shelf.shelf_fault_count c.load.new.shelf in
     let words = g.W.Words.word_fault_count c.args.random.now in
     let words' = g.W.Words.word_fault_count c.first_of.new.random in
-    subst (λ setup. FailsOn setup shelf shelf' words words') (sym c.setup_of.ensures)
-    (fails_of c.in-Ok.loading _ shelf shelf' words words' (c.in_ok-first.ensures.sound (rw c.in-Some.is refl)) c.in-Ok.ensures.sound c.in-Ok.ensures.failed)
+    record {
+      seats = subst (λ setup. HasSeats setup) (sym c.setup_of.ensures)
+          (has_seats c.in-Ok.loading _ (seats_within c.requires.read.0 c.args.config c.requires.read.1));
+      filter = subst (λ setup. HasFilter setup) (sym c.setup_of.ensures) (has_filter c.in-Ok.loading _ c.requires.filter);
+      failed = subst (λ setup. FailsOn setup shelf shelf' words words') (sym c.setup_of.ensures)
+          (fails_of c.in-Ok.loading _ shelf shelf' words words' (c.in_ok-provider.ensures.sound (rw c.in-Some.is refl)) c.in-Ok.ensures.sound c.in-Ok.ensures.failed);
+      files = search rules;
+      shelf_later = search rules;
+      words_later = search rules;
+    }
 
-pub returns-in_default-clause-failed : goal.returns-in_default-clause-failed
-returns-in_default-clause-failed g c = inr (c.in_ok-first.ensures.failed (rw c.in_default.is refl))
+pub returns-in_default-clause-servable : goal.returns-in_default-clause-servable
+returns-in_default-clause-servable g c = record {
+  seats = tt;
+  filter = tt;
+  failed = inr (c.in_ok-provider.ensures.failed (rw c.in_default.is refl));
+  files = refl;
+  shelf_later = search rules;
+  words_later = search rules;
+}

@@ -1,4 +1,4 @@
-use Rattle.std.proofs.Common.{◌≡◌, inl, refl, rules}
+use Rattle.std.proofs.Common.{◌≡◌, ◌∙◌, inl, refl, rules}
 use Rattle.std.proofs.lemmas.Result.{IfOk-weaker}
 use Rattle.directory_setup.specs.Setup.{IsReadConfig}
 use Rattle.directory_setup.specs.declared.setup.Configured.TheVariants.{Config, ReadFault, Refused}
@@ -19,18 +19,41 @@ returns-in-Config-clause-sets_up g c =
     (λ setup made. made_set_up (g.F.Shelf.files c.args.shelf.now) c.args.name.now c.in-Config.config setup is (rw c.in_ok-configured.ensures.files at made))
     c.make.ensures.makes
 
-pub returns-in-Config-clause-failed : goal.returns-in-Config-clause-failed
-returns-in-Config-clause-failed g c =
+pub returns-in-Config-clause-servable : goal.returns-in-Config-clause-servable
+returns-in-Config-clause-servable g c =
+    let made = c.make.ensures.servable in
     let read = rw c.in-Config.is at c.in_ok-configured.ensures.sound in
-    rw (read (λ is. let wrong : Config c.in-Config.config ≡ ReadFault = is in cc)) at c.make.ensures.failed
+    let same = read (λ is. let wrong : Config c.in-Config.config ≡ ReadFault = is in cc) in
+    record {
+      seats = made.seats;
+      filter = made.filter;
+      failed = rw same at made.failed;
+      files = made.files ∙ c.in_ok-configured.ensures.files;
+      shelf_later = rw same at made.shelf_later;
+      words_later = made.words_later;
+    }
 
 pub returns-in-Refused-clause-sets_up : goal.returns-in-Refused-clause-sets_up
 returns-in-Refused-clause-sets_up g c = inl (rw c.in-Refused.is at c.in_ok-configured.ensures.configures)
 
-pub returns-in-Refused-clause-failed : goal.returns-in-Refused-clause-failed
-returns-in-Refused-clause-failed g c =
+pub returns-in-Refused-clause-servable : goal.returns-in-Refused-clause-servable
+returns-in-Refused-clause-servable g c =
     let read = rw c.in-Refused.is at c.in_ok-configured.ensures.sound in
-    (read (λ is. let wrong : Refused c.in-Refused.refusal ≡ ReadFault = is in cc), refl)
+    record {
+      seats = tt;
+      filter = tt;
+      failed = (read (λ is. let wrong : Refused c.in-Refused.refusal ≡ ReadFault = is in cc), refl);
+      files = c.in_ok-configured.ensures.files;
+      shelf_later = c.in_ok-configured.ensures.later;
+      words_later = search rules;
+    }
 
-pub returns-in-ReadFault-clause-failed : goal.returns-in-ReadFault-clause-failed
-returns-in-ReadFault-clause-failed g c = inl (c.in_ok-configured.ensures.failed c.in-ReadFault.is)
+pub returns-in-ReadFault-clause-servable : goal.returns-in-ReadFault-clause-servable
+returns-in-ReadFault-clause-servable g c = record {
+  seats = tt;
+  filter = tt;
+  failed = inl (c.in_ok-configured.ensures.failed c.in-ReadFault.is);
+  files = c.in_ok-configured.ensures.files;
+  shelf_later = c.in_ok-configured.ensures.later;
+  words_later = search rules;
+}

@@ -1,4 +1,4 @@
-use Rattle.std.proofs.Common.{arith, rules, sym, ◌∙◌}
+use Rattle.std.proofs.Common.{arith, rules}
 use Rattle.std.proofs.lemmas.List.{length-map}
 use Rattle.ldap_listener.specs.SeatsOfCode.{seat_of}
 use Rattle.ldap_listener.specs.Sessions.{seen_by}
@@ -12,25 +12,32 @@ serve_links-accepted-requires-clause-order g c =
     let order = first-order _ _ c.args.provider _ _ opened.seated opened.first (g.met.N.Net.links_within c.args.net.now) in
     search rules
 
+pub close_seats-requires-clause-seated : goal.close_seats-requires-clause-seated
+close_seats-requires-clause-seated g c =
+    let seated = c.serve_links-accepted.ensures.accounts.keeps.order.seated in
+    search rules
+
+pub close_seats-requires-clause-free : goal.close_seats-requires-clause-free
+close_seats-requires-clause-free g c =
+    let freed = c.serve_links-accepted.ensures.free in
+    search rules
+
 pub close_seats-requires-clause-count : goal.close_seats-requires-clause-count
 close_seats-requires-clause-count g c =
-    omega (arith, c.serve_links-accepted.ensures.count, c.in-Ok-open_seats.ensures.count, c.in-Ok-open_seats.ensures.ports_are, length-map c.in-Ok-open_seats.seats.items seat_of)
+    omega (arith, c.serve_links-accepted.ensures.count, c.in-Ok-open_seats.ensures.count, c.in-Ok-open_seats.ensures.ports_are, length-map c.serve_links-accepted.result.1.items seat_of)
 
 pub close_seats-requires-clause-room : goal.close_seats-requires-clause-room
 close_seats-requires-clause-room g c =
-    omega (arith, c.serve_links-accepted.ensures.count, c.in-Ok-open_seats.ensures.count, c.in-Ok.ensures.capacity, length-map c.in-Ok-open_seats.seats.items seat_of)
+    omega (arith, c.serve_links-accepted.ensures.count, c.in-Ok-open_seats.ensures.count, c.in-Ok.ensures.capacity, length-map c.serve_links-accepted.result.1.items seat_of)
 
 pub returns-clause-serves : goal.returns-clause-serves
 returns-clause-serves g c =
-    let before = c.in-Ok-open_seats.seats.items in
-    let after = c.serve_links-accepted.result.1.items in
-    let all = c.serve_links-accepted.ensures.accounts in
-    let count = length-map after seat_of ∙ c.serve_links-accepted.ensures.count ∙ sym (length-map before seat_of) in (
+    let all = c.serve_links-accepted.ensures.accounts in (
       all.count,
       all.known,
       serves_all
           (seen_by g.N.Link.Source.bytes_left g.N.Link.Source.bytes_read g.N.Link.Sink.bytes_held g.N.Link.Source.read_fault_count g.N.Link.Sink.write_fault_count)
-          c.args.access.now _ _ _ _ all.count _ _ _ _ c.in-Ok-open_seats.ensures all.keeps count c.close_seats.ensures,
+          c.args.access.now _ _ _ _ all.count _ _ _ _ c.in-Ok-open_seats.ensures all.keeps c.serve_links-accepted.ensures.count c.close_seats.ensures,
     )
 
 pub returns-clause-failed : goal.returns-clause-failed

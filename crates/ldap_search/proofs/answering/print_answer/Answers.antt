@@ -19,7 +19,13 @@ pub returns-in-Ok-Some-clause-answers : goal.returns-in-Ok-Some-clause-answers
 returns-in-Ok-Some-clause-answers g c = λ first start messages so_far.
     let mid = c.loop.invariant.2 first start messages so_far in
     let ends = (rw c.in-Ok-Some.field-0-is at c.in-Ok-Some.ensures.prints) first start mid.0 mid.1 in
-    record { messages = mid.0; parts = mid.1.parts; ends = ends }
+    record { messages = mid.0; parts = mid.1.parts; ends = ends.0; faults = ends.1 }
+
+pub returns-in-Err-clause-in_part : goal.returns-in-Err-clause-in_part
+returns-in-Err-clause-in_part g c = λ first start messages so_far.
+    let mid = c.loop.invariant.2 first start messages so_far in
+    let stops = c.in-Err.ensures.in_part first start mid.0 mid.1 in
+    record { messages = mid.0; parts = mid.1.parts; read = stops.0; printed = stops.1 }
 
 pub returns-in-Ok-Some-clause-held : goal.returns-in-Ok-Some-clause-held
 returns-in-Ok-Some-clause-held g c = c.in-Ok-Some.ensures.held ∙ c.loop.invariant.1

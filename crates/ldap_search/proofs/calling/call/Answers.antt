@@ -1,6 +1,6 @@
 use Rattle.std.proofs.Common.{inl, refl, rules}
 use Rattle.std.proofs.lemmas.Result.{IfOk-weaker}
-use Rattle.ldap_search.proofs.Called.{called, link_counted, output_counted, room_to_hang_up}
+use Rattle.ldap_search.proofs.Called.{called, called_in_part, link_counted, link_uncounted, output_counted, output_uncounted, room_to_hang_up}
 use Rattle.ldap_search.proofs.calling.call.Goals as goal
 
 -- a link came
@@ -26,7 +26,24 @@ returns-in-Ok-clause-net_failed g c =
     (λ end hung. link_counted _ _ _ _ _ _ _ _ _ _ end c.in-Ok.link c.in-Ok.ensures.sound (c.in-Ok.ensures.faultless (λ e. let never : ⊥ = cc in never)) hung)
     c.search_over.ensures.hangs_up
 
+pub returns-in-Ok-clause-in_part : goal.returns-in-Ok-clause-in_part
+returns-in-Ok-clause-in_part g c =
+    called_in_part _ _ _ _ c.search_over.result _ _ _ _ _ c.in-Ok.link (c.in-Ok.ensures.asked (λ e. let never : ⊥ = cc in never)) (c.in-Ok.ensures.sound, c.in-Ok.ensures.unused) c.search_over.ensures.in_part
+
+pub returns-in-Ok-clause-output_faultless : goal.returns-in-Ok-clause-output_faultless
+returns-in-Ok-clause-output_faultless g c =
+    IfOk-weaker c.search_over.result _ _ (λ end hung. output_uncounted _ _ _ _ _ _ _ _ _ end c.in-Ok.link hung) c.search_over.ensures.hangs_up
+
+pub returns-in-Ok-clause-net_faultless : goal.returns-in-Ok-clause-net_faultless
+returns-in-Ok-clause-net_faultless g c =
+    IfOk-weaker c.search_over.result _ _
+    (λ end hung. link_uncounted _ _ _ _ _ _ _ _ _ _ end c.in-Ok.link c.in-Ok.ensures.sound (c.in-Ok.ensures.faultless (λ e. let never : ⊥ = cc in never)) hung)
+    c.search_over.ensures.hangs_up
+
 -- none came
+
+pub returns-in-Err-Failed-clause-net_faultless : goal.returns-in-Err-Failed-clause-net_faultless
+returns-in-Err-Failed-clause-net_faultless g c = λ other. absurd (other refl)
 
 pub returns-in-Err-Failed-clause-calls : goal.returns-in-Err-Failed-clause-calls
 returns-in-Err-Failed-clause-calls g c = record { came = inl (refl, refl, c.in-Err-Failed.ensures.asked (λ e. let never : ⊥ = cc in never)) }

@@ -1,5 +1,5 @@
-use Rattle.std.proofs.Common.{inl, inr, refl}
-use Rattle.std.proofs.lemmas.Result.{IfOk-weaker}
+use Rattle.std.proofs.Common.{◌∙◌, inl, inr, refl}
+use Rattle.std.proofs.lemmas.Result.{IfOk-weaker, on_err_weaker}
 use Rattle.ldap_search.proofs.Called.{caller_counted, room_to_retire}
 use Rattle.ldap_search.proofs.searching.search.Goals as goal
 
@@ -13,7 +13,7 @@ retire-requires g c = record {
 pub returns-in-Ok-clause-searches : goal.returns-in-Ok-clause-searches
 returns-in-Ok-clause-searches g c =
     IfOk-weaker c.call-end.result _ _
-    (λ end calls. record { came = inr (_, _, calls, rw c.in-Ok.ensures.served at c.retire.ensures.served) })
+    (λ end calls. record { came = inr (_, _, c.in-Ok.ensures.next, calls, rw c.in-Ok.ensures.served at c.retire.ensures.served) })
     c.call-end.ensures.calls
 
 pub returns-in-Ok-clause-net_failed : goal.returns-in-Ok-clause-net_failed
@@ -22,7 +22,22 @@ returns-in-Ok-clause-net_failed g c =
     (λ end failed is. caller_counted _ _ _ _ _ c.in-Ok.ensures.sound (failed is) (c.in-Ok.ensures.faultless (λ e. let never : ⊥ = cc in never)) c.retire.ensures.faulty)
     c.call-end.ensures.net_failed
 
+pub returns-in-Ok-clause-net_faultless : goal.returns-in-Ok-clause-net_faultless
+returns-in-Ok-clause-net_faultless g c =
+    IfOk-weaker c.call-end.result _ _
+    (λ end faultless is. c.retire.ensures.sound (faultless is ∙ c.in-Ok.ensures.sound) ∙ c.in-Ok.ensures.faultless (λ e. let never : ⊥ = cc in never))
+    c.call-end.ensures.net_faultless
+
 -- none was
+
+pub returns-in-Err-Failed-clause-net_faultless : goal.returns-in-Err-Failed-clause-net_faultless
+returns-in-Err-Failed-clause-net_faultless g c = λ other. absurd (other refl)
 
 pub returns-in-Err-Failed-clause-searches : goal.returns-in-Err-Failed-clause-searches
 returns-in-Err-Failed-clause-searches g c = record { came = inl (refl, refl, c.in-Err-Failed.ensures.served) }
+
+-- where memory ran out
+
+pub returns-in-Ok-clause-in_part : goal.returns-in-Ok-clause-in_part
+returns-in-Ok-clause-in_part g c =
+    on_err_weaker c.call-end.result (λ calls. record { came = inr (_, _, c.in-Ok.ensures.next, calls, rw c.in-Ok.ensures.served at c.retire.ensures.served) }) c.call-end.ensures.in_part

@@ -1,5 +1,6 @@
-use Rattle.std.proofs.Common.{refl, arith}
+use Rattle.std.proofs.Common.{ap, arith, inl, inr, refl}
 use Rattle.sync_consumer.specs.declared.consumer.Taken.TheVariants.{Staged}
+use Rattle.sync_model.specs.Copy.{Copy}
 use Rattle.replica_node.proofs.Stepping.{copied_takes, fault_ends, over_ends, stored_takes}
 use Rattle.replica_node.specs.Following.{replica_at}
 use Rattle.replica_node.proofs.committing.take.Goals as goal
@@ -28,10 +29,18 @@ returns-in-Copied-clause-takes g c =
 
 pub returns-in-Over-clause-takes : goal.returns-in-Over-clause-takes
 returns-in-Over-clause-takes g c =
-    over_ends (replica_at c.args.consumer.now.copy (g.P.Port.state c.args.port.now) c.args.stored.now) (replica_at c.take.new.self.copy (g.P.Port.state c.args.port.now) c.args.stored.now)
-    c.args.message.now _ c.in-Over.ensures.exact refl refl
+    inl
+    (over_ends (replica_at c.args.consumer.now.copy (g.P.Port.state c.args.port.now) c.args.stored.now) (replica_at c.take.new.self.copy (g.P.Port.state c.args.port.now) c.args.stored.now)
+    c.args.message.now _ c.in-Over.ensures.exact refl refl)
 
 pub returns-in-Fault-clause-takes : goal.returns-in-Fault-clause-takes
 returns-in-Fault-clause-takes g c =
-    fault_ends (replica_at c.args.consumer.now.copy (g.P.Port.state c.args.port.now) c.args.stored.now) (replica_at c.take.new.self.copy (g.P.Port.state c.args.port.now) c.args.stored.now)
-    c.args.message.now _ c.in-Fault.ensures.exact refl refl
+    inl
+    (fault_ends (replica_at c.args.consumer.now.copy (g.P.Port.state c.args.port.now) c.args.stored.now) (replica_at c.take.new.self.copy (g.P.Port.state c.args.port.now) c.args.stored.now)
+    c.args.message.now _ c.in-Fault.ensures.exact refl refl)
+
+-- memory ran out before it was taken
+
+pub returns-in-NoMemory-clause-takes : goal.returns-in-NoMemory-clause-takes
+returns-in-NoMemory-clause-takes g c =
+    inr (refl, ap (λ (copy : Copy). replica_at copy (g.P.Port.state c.args.port.now) c.args.stored.now) c.in-NoMemory.ensures.exact)

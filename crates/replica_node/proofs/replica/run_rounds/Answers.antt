@@ -2,8 +2,8 @@ use Rattle.std.proofs.Common.{◌<◌, refl, sym, ◌∙◌, arith, rules}
 use Rattle.ldap_client.specs.Links.{link_by}
 use Rattle.replica_node.specs.Following.{replica_at}
 use Rattle.replica_node.specs.Rounds.{wanted_by}
-use Rattle.replica_node.specs.declared.end.RoundOutcome.TheVariants.{LimitReached, Over}
-use Rattle.replica_node.proofs.Rounding.{filter_stays, followed_more, followed_none, limited, round_wanting, rounds_done}
+use Rattle.replica_node.specs.declared.end.RoundOutcome.TheVariants.{LimitReached, NoMemory, Over}
+use Rattle.replica_node.proofs.Rounding.{filter_stays, followed_more, followed_none, limited, ran_out, round_wanting, rounds_done}
 use Rattle.replica_node.proofs.replica.run_rounds.Goals.{else-rounds-ne0-via-then-rounds-ne0+else-tried-rounds, else-rounds-ne0-via-else-rounds-ne0}
 use Rattle.replica_node.proofs.replica.run_rounds.Goals as goal
 
@@ -35,7 +35,7 @@ loop-preserved g c =
     let after = replica_at now.consumer.copy (g.P.Port.state now.port) now.stored in
     let round =
     round_wanting state (wanted_by c.loop.consumer) (wanted_by c.args.consumer.now) c.args.address.now (g.D.Dial.dialled c.loop.dial) (g.D.Dial.dialled now.dial) mid after Over was.wanted
-    (c.in-Over.ensures.round (λ e. let never : ⊥ = cc in never)) in
+    c.in-Over.ensures.round in
     record {
       follows = followed_more state c.args.address.now (wanted_by c.args.consumer.now) (g.P.Port.state c.args.port.now) (g.D.Dial.dialled c.args.dial.now) c.args.rounds c.loop.tried
           c.saturating_add-tried.result mid after (g.D.Dial.dialled c.loop.dial) (g.D.Dial.dialled now.dial) was.follows round
@@ -54,7 +54,7 @@ loop-preserved g c =
 
 -- all connections were tried
 pub returns-then-tried-rounds-clause-follows : goal.returns-then-tried-rounds-clause-follows
-returns-then-tried-rounds-clause-follows g c memory =
+returns-then-tried-rounds-clause-follows g c =
     let state = link_by g.D.Link.Source.bytes_left g.D.Link.Source.bytes_read g.D.Link.Sink.bytes_held g.D.Link.Source.read_fault_count g.D.Link.Sink.write_fault_count in
     let some : 0 < c.args.rounds = omega (arith, c.if-rounds-ne0.true) in
     rounds_done state c.args.address.now (wanted_by c.args.consumer.now) (g.P.Port.state c.args.port.now) (g.D.Dial.dialled c.args.dial.now) c.args.rounds c.loop.tried
@@ -62,7 +62,7 @@ returns-then-tried-rounds-clause-follows g c memory =
 
 -- a commit passes a limit
 pub returns-in-LimitReached-clause-follows : goal.returns-in-LimitReached-clause-follows
-returns-in-LimitReached-clause-follows g c memory =
+returns-in-LimitReached-clause-follows g c =
     let state = link_by g.D.Link.Source.bytes_left g.D.Link.Source.bytes_read g.D.Link.Sink.bytes_held g.D.Link.Source.read_fault_count g.D.Link.Sink.write_fault_count in
     let was = c.loop.invariant in
     let mid = replica_at c.loop.consumer.copy (g.P.Port.state c.loop.port) c.loop.stored in
@@ -71,7 +71,7 @@ returns-in-LimitReached-clause-follows g c memory =
     let limit = c.in-LimitReached.limit in
     let round =
     round_wanting state (wanted_by c.loop.consumer) (wanted_by c.args.consumer.now) c.args.address.now (g.D.Dial.dialled c.loop.dial) (g.D.Dial.dialled now.dial) mid after (LimitReached limit) was.wanted
-    (c.in-LimitReached.ensures.round (λ e. let never : ⊥ = cc in never)) in
+    c.in-LimitReached.ensures.round in
     limited state c.args.address.now (wanted_by c.args.consumer.now) (g.P.Port.state c.args.port.now) (g.D.Dial.dialled c.args.dial.now) c.args.rounds c.loop.tried limit mid after
     (g.D.Dial.dialled c.loop.dial) (g.D.Dial.dialled now.dial) was.follows round
     (λ some. let first = was.follows.number some in elim c.else-rounds-ne0.branch [
@@ -85,8 +85,23 @@ returns-in-LimitReached-clause-home g c = c.in-LimitReached.ensures.home ∙ c.l
 pub returns-in-LimitReached-clause-later : goal.returns-in-LimitReached-clause-later
 returns-in-LimitReached-clause-later g c = omega (arith, c.in-LimitReached.ensures.later, c.loop.invariant.later)
 
+-- memory ran out
 pub returns-in-NoMemory-clause-follows : goal.returns-in-NoMemory-clause-follows
-returns-in-NoMemory-clause-follows g c memory = absurd (memory refl)
+returns-in-NoMemory-clause-follows g c =
+    let state = link_by g.D.Link.Source.bytes_left g.D.Link.Source.bytes_read g.D.Link.Sink.bytes_held g.D.Link.Source.read_fault_count g.D.Link.Sink.write_fault_count in
+    let was = c.loop.invariant in
+    let mid = replica_at c.loop.consumer.copy (g.P.Port.state c.loop.port) c.loop.stored in
+    let now = c.run_round.new in
+    let after = replica_at now.consumer.copy (g.P.Port.state now.port) now.stored in
+    let round =
+    round_wanting state (wanted_by c.loop.consumer) (wanted_by c.args.consumer.now) c.args.address.now (g.D.Dial.dialled c.loop.dial) (g.D.Dial.dialled now.dial) mid after NoMemory was.wanted
+    c.in-NoMemory.ensures.round in
+    ran_out state c.args.address.now (wanted_by c.args.consumer.now) (g.P.Port.state c.args.port.now) (g.D.Dial.dialled c.args.dial.now) c.args.rounds c.loop.tried mid after
+    (g.D.Dial.dialled c.loop.dial) (g.D.Dial.dialled now.dial) was.follows round
+    (λ some. let first = was.follows.number some in elim c.else-rounds-ne0.branch [
+      | else-rounds-ne0-via-then-rounds-ne0+else-tried-rounds w ↦ omega (arith, first.0, first.1, some, w.if-tried-rounds.false)
+      | else-rounds-ne0-via-else-rounds-ne0 w ↦ absurd (omega (arith, some, w.if-rounds-ne0.false))
+    ])
 
 pub returns-in-NoMemory-clause-home : goal.returns-in-NoMemory-clause-home
 returns-in-NoMemory-clause-home g c = c.in-NoMemory.ensures.home ∙ c.loop.invariant.home

@@ -10,7 +10,8 @@ search-requires-clause-filter g c κs within = rw c.in-Wanted.is at c.in_ok-read
 pub returns-in-Ok-clause-searches : goal.returns-in-Ok-clause-searches
 returns-in-Ok-clause-searches g c =
     ends_search _
-    (search_ended _ _ c.in-Ok.end (rw c.in-Wanted.is at c.in_ok-reading.ensures.reads) c.in-Ok.ensures.searches c.say_end.ensures c.in-Ok.ensures.output_failed c.in-Ok.ensures.net_failed)
+    (search_ended _ _ c.in-Ok.end (rw c.in-Wanted.is at c.in_ok-reading.ensures.reads) c.in-Ok.ensures.searches c.say_end.ensures c.in-Ok.ensures.output_failed c.in-Ok.ensures.net_failed
+    c.in-Ok.ensures.output_faultless c.in-Ok.ensures.net_faultless)
 
 -- the base or the filter is refused
 
@@ -37,4 +38,4 @@ returns-in_err-reading-clause-searches g c =
     rw ran.1 (runs_out_unasked ran.0 refl refl refl)
 
 pub returns-in-Err-clause-searches : goal.returns-in-Err-clause-searches
-returns-in-Err-clause-searches g c = runs_out_asked _ _ (rw c.in-Wanted.is at c.in_ok-reading.ensures.reads)
+returns-in-Err-clause-searches g c = runs_out_asked _ _ (rw c.in-Wanted.is at c.in_ok-reading.ensures.reads) c.in-Err.ensures.in_part

@@ -29,7 +29,7 @@ let_go-requires g c =
     let came = room_to_retire (g.N.Net.served c.args.net.now) (g.met.N.Net.callers_within c.args.net.now) in
     let first =
     subst (λ s. IfSome s (λ t. length t.retired + length t.gone < t.callers)) (sym c.in-Ok.ensures.served) came in
-    let room = room_after _ _ _ _ c.in-Ok-serve_replica.ensures.serves.2.reported first in
+    let room = room_after _ _ _ _ c.in-Ok-serve_replica.ensures.serves.2.served.reported first in
     search rules
 
 -- all connections were served

@@ -17,6 +17,7 @@ returns-in-Ok-Got g c =
       kept = r.1;
       none = tt;
       why = tt;
+      faultless = λ _. (rw c.in-Ok-Got.field-0-is at c.in-Ok-Got.ensures.faults);
       fault = λ live. live;
     }
 
@@ -31,6 +32,7 @@ returns-in-Ok-Quiet g c =
       kept = r.1;
       none = tt;
       why = tt;
+      faultless = λ _. (rw c.in-Ok-Quiet.field-0-is at c.in-Ok-Quiet.ensures.faults);
       fault = λ live. live;
     }
 
@@ -48,7 +50,8 @@ returns-in-Ok-End g c =
     })
     _ EndOfInput r.0 (record { taken = r.2; read = r.3; later = c.in-Ok-End.ensures.later; held = sink.0; write_faults = sink.1 })
     (rw c.in-Ok-End.field-0-is at r.4) r.1 (ap (link_by g.L.Source.bytes_left g.L.Source.bytes_read g.L.Sink.bytes_held g.L.Source.read_fault_count g.L.Sink.write_fault_count) c.fail.ensures.link) (ap kept_in c.fail.ensures.received)
-    (c.in-Ok-End.ensures.end (ap (λ p. Ok p) c.in-Ok-End.field-0-is)) c.fail.ensures.answers refl)
+    (c.in-Ok-End.ensures.end (ap (λ p. Ok p) c.in-Ok-End.field-0-is)) (λ _. (rw c.in-Ok-End.field-0-is at c.in-Ok-End.ensures.faults))
+    c.fail.ensures.answers refl)
 
 pub returns-in-Ok-Failed : goal.returns-in-Ok-Failed
 returns-in-Ok-Failed g c =
@@ -64,7 +67,7 @@ returns-in-Ok-Failed g c =
     })
     _ ReadFault r.0 (record { taken = r.2; read = r.3; later = c.in-Ok-Failed.ensures.later; held = sink.0; write_faults = sink.1 })
     (rw c.in-Ok-Failed.field-0-is at r.4) r.1 (ap (link_by g.L.Source.bytes_left g.L.Source.bytes_read g.L.Sink.bytes_held g.L.Source.read_fault_count g.L.Sink.write_fault_count) c.fail-in-Ok-Failed.ensures.link) (ap kept_in c.fail-in-Ok-Failed.ensures.received)
-    (c.in-Ok-Failed.ensures.failed (ap (λ p. Ok p) c.in-Ok-Failed.field-0-is)) c.fail-in-Ok-Failed.ensures.answers refl)
+    (rw c.in-Ok-Failed.field-0-is at c.in-Ok-Failed.ensures.faults) (λ other. absurd (other refl)) c.fail-in-Ok-Failed.ensures.answers refl)
 
 -- out of memory nothing was read
 pub returns-in-Err : goal.returns-in-Err
@@ -78,5 +81,6 @@ returns-in-Err g c =
       kept = r.1;
       none = r.4;
       why = tt;
+      faultless = λ _. c.in-Err.ensures.faults;
       fault = λ live. live;
     }

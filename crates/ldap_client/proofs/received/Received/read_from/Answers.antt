@@ -1,7 +1,8 @@
-use Rattle.std.proofs.Common.{[], refl, sym, take, ◌∙◌}
+use Rattle.std.proofs.Common.{◌≡◌, [], refl, sym, take, ◌∙◌}
 use Rattle.std.proofs.KnownBytes.{Appends-nil, Consumes-nil}
 use Rattle.std.proofs.lemmas.List.{append-nil}
 use Rattle.sync_io.proofs.Sides.{keeps_none}
+use Rattle.sync_io.specs.declared.source.Piece.TheVariants.{Got, Quiet, End, Failed}
 use Rattle.ldap_client.proofs.received.Received.read_from.Goals as goal
 
 pub returns-in-Got-clause-reads : goal.returns-in-Got-clause-reads
@@ -23,3 +24,17 @@ returns-in-Failed-clause-reads g c =
 pub returns-in_default-clause-reads : goal.returns-in_default-clause-reads
 returns-in_default-clause-reads g c =
     ([], c.make_room.ensures.kept ∙ sym (append-nil _), Consumes-nil (g.S.Source.bytes_left c.args.source.now), Appends-nil (g.S.Source.bytes_read c.args.source.now), refl)
+
+-- what a read counts
+
+pub returns-in-Got-clause-faults : goal.returns-in-Got-clause-faults
+returns-in-Got-clause-faults g c = c.in-Got.ensures.sound (λ is. let wrong : Got c.in-Got.count ≡ Failed = is in cc)
+
+pub returns-in-Quiet-clause-faults : goal.returns-in-Quiet-clause-faults
+returns-in-Quiet-clause-faults g c = c.in-Quiet.ensures.sound (λ is. let wrong : Quiet ≡ Failed = is in cc)
+
+pub returns-in-End-clause-faults : goal.returns-in-End-clause-faults
+returns-in-End-clause-faults g c = c.in-End.ensures.sound (λ is. let wrong : End ≡ Failed = is in cc)
+
+pub returns-in-Failed-clause-faults : goal.returns-in-Failed-clause-faults
+returns-in-Failed-clause-faults g c = c.in-Failed.ensures.failed refl

@@ -1,0 +1,5 @@
+-- A drill: what its writers do, and what they leave in the journal.
+pub mod Journals
+pub mod Going
+pub mod Drilled
+pub mod Writers

@@ -1,0 +1,3 @@
+-- A refresh that is decided piece by piece, and its laws.
+pub mod Law
+pub mod Slices
