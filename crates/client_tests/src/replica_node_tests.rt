@@ -186,7 +186,7 @@ fn assert_dialled(rt: &impl Abort, dial: &MemoryDial, row: &Row) {
     }
 }
 
-fn assert_follows<R: Wait + Eprint + Abort>(rt: &R, alloc: Global, row: &Row) -> Result<(), Fail> {
+fn assert_follows<R: Wait + Abort>(rt: &R, alloc: Global, row: &Row) -> Result<(), Fail> {
     let upstream = upstream_of(alloc)?;
     let mut dial = dial_of(alloc, row.links)?;
     let mut replica = Provider::new(alloc, Dn::empty(alloc), 0, 1, Kind::Replica)?;

@@ -10,6 +10,8 @@ use Rattle.sync_config.specs.Upstreams.{FollowedValue, UpstreamValue, some_upstr
 use Rattle.sync_config.specs.declared.config.Config.{Config}
 use Rattle.sync_config.specs.declared.fault.ConfigFault.{ConfigFault}
 use Rattle.sync_config.specs.declared.fault.ConfigFault.TheVariants.{BadValue, MissingKey}
+use Rattle.sync_model.proofs.Limits.{option_map-none}
+use Rattle.sync_model.proofs.Refresh.{none_from_false}
 
 -- what stands under four keys, by what is found under all
 record Keyed (suffix : Result (Option Name) ConfigFault) (sid seats : Result ℕ ConfigFault) (followed : Result (Option FollowedValue) ConfigFault) (config : ConfigValue) : Type 0 where
@@ -130,14 +132,6 @@ unfollowed (Some found) is = absurd (some_found (upstream_in found) is)
     some_found (Ok followed) wrong = cc
     some_found (Err fault) wrong = cc
 
-none_mapped : {A B : Type 0} (f : A → B) (value : Option A) → option_map f value ≡ None → value ≡ None
-none_mapped f None is = refl
-none_mapped f (Some x) is = absurd cc
-
-none_is : {A : Type 0} (value : Option A) → is_some value ≡ false → value ≡ None
-none_is None is = refl
-none_is (Some x) is = absurd cc
-
 some_is : {A : Type 0} (value : Option A) → (value ≡ None → ⊥) → IsSome value
 some_is None never = absurd (never refl)
 some_is (Some x) never = refl
@@ -154,7 +148,7 @@ has_suffix text config (members, document, is) alone = some_is config.suffix nev
 
     -- what the configuration has for an upstream was found
     none : k.upstream ≡ None
-    none = none_mapped (λ (f : FollowedValue). f.upstream) k.upstream (k.upstream_is ∙ ap (option_map upstream_value) (none_is config.upstream alone))
+    none = option_map-none (λ (f : FollowedValue). f.upstream) k.upstream (k.upstream_is ∙ ap (option_map upstream_value) (none_from_false config.upstream alone))
 
     follows : has (codes "upstream") d ≡ false
     follows = unfollowed (get (codes "upstream") d) (k.followed_is ∙ ap (λ (f : Option FollowedValue). Ok f) none)

@@ -1,6 +1,6 @@
 -- A configuration and the file that it names are refused for one cause, or describe a directory.
 use Rattle.std.proofs.Common.{◌≡◌, ◌≢◌, ℕ, false, List, [], Option, Some, None, is_some, Result, Ok, Err, inl, inr, refl, sym, ap, subst, ◌∙◌}
-use Rattle.std.specs.Prelude.{IsSome, option_map}
+use Rattle.std.specs.Prelude.{IsSome}
 use Rattle.std.proofs.lemmas.Bool.{false≢true}
 use Rattle.sync_config.specs.Keys.{Name}
 use Rattle.sync_config.specs.Settings.{ConfigValue, IsReadAs, Refuses, answered, config_of, config_value}
@@ -10,6 +10,7 @@ use Rattle.sync_config.specs.declared.fault.ConfigFault.{ConfigFault}
 use Rattle.sync_config.specs.declared.fault.ConfigFault.TheVariants as fault
 use Rattle.toml.specs.Data.{Members, table}
 use Rattle.toml.specs.Parse.{parse_document}
+use Rattle.sync_provider.proofs.Journals.{some_map}
 use Rattle.sync_provider.specs.Journal.{JournalledProvider, port_state}
 use Rattle.sync_provider.specs.Machine.{ProviderState}
 use Rattle.sync_provider.specs.Ports.{PortState}
@@ -131,14 +132,10 @@ module _ (files : Files) (name : List ℕ) where
 
 -- ---- the empty directory of a configuration
 
-is_some_mapped : {A B : Type 0} (f : A → B) (value : Option A) → is_some (option_map f value) ≡ is_some value
-is_some_mapped f None = refl
-is_some_mapped f (Some x) = refl
-
 same_place : (one other : Config) → config_value one ≡ config_value other → place_of one.suffix (is_some one.upstream) ≡ place_of other.suffix (is_some other.upstream)
 same_place one other same =
     let follows : is_some one.upstream ≡ is_some other.upstream =
-    sym (is_some_mapped upstream_value one.upstream) ∙ ap (λ (c : ConfigValue). is_some c.upstream) same ∙ is_some_mapped upstream_value other.upstream in
+    sym (some_map upstream_value one.upstream) ∙ ap (λ (c : ConfigValue). is_some c.upstream) same ∙ some_map upstream_value other.upstream in
     ap (λ (suffix : Option Name). place_of suffix (is_some one.upstream)) (ap (λ (c : ConfigValue). c.suffix) same)
     ∙ ap (λ b. place_of other.suffix b) follows
 

@@ -1,5 +1,5 @@
 -- What a served directory begins with, by its configuration.
-use Rattle.std.specs.Prelude.{◌≡◌, ◌≢◌, ◌⊎◌, ℕ, ◌+◌, ◌*◌, ◌^◌, ◌≤◌, List, [], Option, Some, None, Result, Ok, IfOk, IfSome, IsSome, is_some, Bool, true, false}
+use Rattle.std.specs.Prelude.{◌≡◌, ◌≢◌, ◌⊎◌, ℕ, ◌+◌, ◌*◌, ◌^◌, ◌≤◌, List, [], Option, Some, None, Result, Ok, IfOk, OnErr, IfSome, IsSome, is_some, Bool, true, false}
 use Rattle.dn_names.specs.Names.{TypeAndValue}
 use Rattle.ldap_session.specs.declared.access.Access.{Access}
 use Rattle.ldap_session.specs.declared.access.Access.TheVariants.{Free, Named}
@@ -234,13 +234,16 @@ sources files shelf_faults word_faults = record {
 }
 
 -- what is to be served has seats, and a filter that can be asked for; with it or a refusal no
--- source failed, and a read fault comes only where one did; the files stay, and no count falls
+-- source failed, nor where memory ran out, and a read fault comes only where one did; the files
+-- stay, and no count falls
 pub record IsServable {E : Type 0}
     (old new : SetupSources) (result : Result code.Setup E) : Type 0 where
   pub seats : IfOk result HasSeats
   pub filter : IfOk result HasFilter
   pub failed : IfOk result (λ setup.
       FailsOn setup old.shelf_faults new.shelf_faults old.word_faults new.word_faults)
+  pub sound : OnErr result
+      ((new.shelf_faults ≡ old.shelf_faults) × (new.word_faults ≡ old.word_faults))
   pub files : new.files ≡ old.files
   pub shelf_later : old.shelf_faults ≤ new.shelf_faults
   pub words_later : old.word_faults ≤ new.word_faults

@@ -13,6 +13,7 @@ ghost use Rattle.std.specs.Prelude.{
   IfSome,
   IsNone,
   IsSome,
+  OnErr,
   is_some,
 };
 ghost use Rattle.directory_setup.specs.Setup.{
@@ -136,6 +137,7 @@ fn configure<R: Wait, F: Shelf>(
         → CountHasRisen (F.shelf_fault_count shelf.old) (F.shelf_fault_count shelf.new)) }
     ensures sound { IfOk result (λ found. found ≢ Configured.ReadFault
         → F.shelf_fault_count shelf.new ≡ F.shelf_fault_count shelf.old) }
+    ensures err { OnErr result (F.shelf_fault_count shelf.new ≡ F.shelf_fault_count shelf.old) }
     ensures later { F.shelf_fault_count shelf.old ≤ F.shelf_fault_count shelf.new }
 {
     let found = read_file(rt, alloc, shelf, name)?;
@@ -202,6 +204,7 @@ fn load<R: Wait, F: Shelf, K: Clock>(
         → CountHasRisen (F.shelf_fault_count shelf.old) (F.shelf_fault_count shelf.new)) }
     ensures sound { IfOk result (λ loading. loading ≢ Loading.NotRead
         → F.shelf_fault_count shelf.new ≡ F.shelf_fault_count shelf.old) }
+    ensures err { OnErr result (F.shelf_fault_count shelf.new ≡ F.shelf_fault_count shelf.old) }
     ensures later { F.shelf_fault_count shelf.old ≤ F.shelf_fault_count shelf.new }
 {
     let Some(name) = name else {
@@ -258,6 +261,7 @@ fn first_of<W: Words>(
         → CountHasRisen (W.word_fault_count random.old) (W.word_fault_count random.new)) }
     ensures sound { IfOk result (λ found. IsSome found
         → W.word_fault_count random.new ≡ W.word_fault_count random.old) }
+    ensures err { OnErr result (W.word_fault_count random.new ≡ W.word_fault_count random.old) }
     ensures later { W.word_fault_count random.old ≤ W.word_fault_count random.new }
 {
     let Some(history) = history_of(random) else {

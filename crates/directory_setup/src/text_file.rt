@@ -1,6 +1,6 @@
 //! The texts of files.
 
-ghost use Rattle.std.specs.Prelude.{◌≡◌, ◌≢◌, ◌≤◌, IfOk};
+ghost use Rattle.std.specs.Prelude.{◌≡◌, ◌≢◌, ◌≤◌, IfOk, OnErr};
 ghost use Rattle.directory_setup.specs.Setup.{IsReadFrom};
 ghost use Rattle.directory_setup.specs.Texts.{IsReadOf};
 ghost use Rattle.directory_setup.specs.declared.text_file.FileText.TheVariants.{Failed};
@@ -28,6 +28,7 @@ fn read_text<R: Wait, S: Source>(rt: &R, alloc: Global, file: &mut S) -> Result<
         → CountHasRisen (S.read_fault_count file.old) (S.read_fault_count file.new)) }
     ensures sound { IfOk result (λ found. found ≢ Failed
         → S.read_fault_count file.new ≡ S.read_fault_count file.old) }
+    ensures err { OnErr result (S.read_fault_count file.new ≡ S.read_fault_count file.old) }
     ensures later { S.read_fault_count file.old ≤ S.read_fault_count file.new }
 {
     let mut text = Vec::new(alloc);
@@ -63,6 +64,7 @@ pub fn read_file<R: Wait, F: Shelf>(
         → CountHasRisen (F.shelf_fault_count shelf.old) (F.shelf_fault_count shelf.new)) }
     ensures sound { IfOk result (λ found. found ≢ Failed
         → F.shelf_fault_count shelf.new ≡ F.shelf_fault_count shelf.old) }
+    ensures err { OnErr result (F.shelf_fault_count shelf.new ≡ F.shelf_fault_count shelf.old) }
     ensures later { F.shelf_fault_count shelf.old ≤ F.shelf_fault_count shelf.new }
 {
     match shelf.fetch(name) {

@@ -1,26 +1,20 @@
 -- Seats, one of which changes, and the accounts of the links.
-use Rattle.std.proofs.Common.{◌≡◌, ℕ, zero, suc, ◌+◌, ◌<◌, ◌≤◌, true, false, List, [], ◌∷◌, ◌++◌, length, get_or, set, Option, Some, None, refl, sym, ap, ◌∙◌, subst, arith, append_assoc, length-append, add_assoc, add-zero}
+use Rattle.std.proofs.Common.{◌≡◌, ℕ, zero, suc, ◌+◌, ◌<◌, ◌≤◌, true, false, List, [], ◌∷◌, ◌++◌, length, get_or, set, Option, Some, None, Result, refl, sym, ap, ◌∙◌, subst, arith, append_assoc, length-append, add_assoc, add-zero}
 use Rattle.std.proofs.lemmas.List.{get_or-set_same, set-set, length-set}
-use Rattle.std.specs.List.{AllZip}
+use Rattle.std.proofs.lemmas.Slice.Zip.{all_zipped_more}
 use Rattle.std.specs.Prelude.{IfSome, IsSome, option_map}
 use Rattle.atomic_table.specs.Seated.{TableId}
 use Rattle.turn_cell.proofs.Each.{every-append}
 use Rattle.turn_cell.specs.Journals.{Every, IsNumber}
 use Rattle.sync_io.specs.Links.{HasNoFaults, IsUnused}
 use Rattle.sync_io.specs.Net.{Served, accepts, releases}
+use Rattle.sync_io.specs.declared.dial.NetFault.{NetFault}
 use Rattle.sync_provider.specs.Ports.{PortState}
 use Rattle.shared_directory.specs.Passes.{DirectoryView, IsUpToDate, port_of}
 use Rattle.ldap_session.specs.declared.access.Access.{Access}
-use Rattle.ldap_listener.specs.Seats.{AcceptsLinks, AccountsForMore, AllCounted, AllFree, AllSeated, AreAccountedFor, AreInOrder, HasRoom, IsCounted, IsFreeAt, IsReported, IsSeated, IsServed, KeepsAccounts, ConnectionSeat, busy, busy_count, counts, free, vacant}
+use Rattle.ldap_listener.specs.Seats.{AcceptsLinks, AccountsForMore, AllCounted, AllFree, AllSeated, AreAccountedFor, AreInOrder, CountsFaults, HasRoom, IsCounted, IsFreeAt, IsReported, IsSeated, IsServed, KeepsAccounts, KeepsSeats, ConnectionSeat, busy, busy_count, counts, free, vacant}
 use Rattle.ldap_listener.specs.Sessions.{Chain, HasServed, IsFresh, LinkView, ServedSession, sessions_of}
 use Rattle.ldap_listener.proofs.Chains.{chain-more, sessions-else, sessions-own}
-
-served-more : {L S : Type 0} (R : L → S → Type 0) (links : List L) (sessions : List S) (link : L) (s : S)
-    → AllZip R links sessions → R link s → AllZip R (links ++ link ∷ []) (sessions ++ s ∷ [])
-served-more R [] [] link s all one = (one, tt)
-served-more R [] (t ∷ ts) link s all one = absurd all
-served-more R (l ∷ ls) [] link s all one = absurd all
-served-more R (l ∷ ls) (t ∷ ts) link s all one = (all.0, served-more R ls ts link s all.1 one)
 
 -- ---- seats
 
@@ -218,7 +212,7 @@ module _ {L C M : Type 0} (v : LinkView L) (access : Access) where
         links = accounts.links ++ link' ∷ [];
         sessions = accounts.sessions ++ (1 + i, s) ∷ [];
         reported = subst P (sym (add-zero n)) (reported-more before n net accounts.links link' accounts.reported);
-        served = served-more (IsServed v access (IsSome before)) accounts.links accounts.sessions link' (1 + i, s) accounts.served
+        served = all_zipped_more (IsServed v access (IsSome before)) accounts.links accounts.sessions link' (1 + i, s) accounts.served
             (serving.session, λ reports. serving.reported (was.2 reports));
         numbered = numbered-set seats i (free c' view') (accounts.sessions ++ (1 + i, s) ∷ [])
             (every-append (λ (t : ℕ × ServedSession). IsNumber (length seats) t.0) accounts.sessions ((1 + i, s) ∷ []) accounts.numbered
@@ -317,13 +311,23 @@ module _ {L C M : Type 0} (v : LinkView L) (access : Access) (cell : TableId) wh
   keeps-still k a b c s t u one later =
       subst (λ n. KeepsAccounts v access cell n a s c u) (add-zero k) (keeps-then k 0 a b c s t u one later)
 
-  -- the same of a number of links of which something is known
-  pub accepts-still : (IsKnown : ℕ → Type 0) (a b c : Option (Served L C M)) (s t u : List (ConnectionSeat L))
-      → AcceptsLinks v access cell IsKnown a s b t → KeepsAccounts v access cell 0 b t c u → AcceptsLinks v access cell IsKnown a s c u
-  accepts-still IsKnown a b c s t u one later = record {
+  -- nothing happens to the seats
+  pub seats-none : (net : Option (Served L C M)) (seats : List (ConnectionSeat L)) (x : ℕ) → AreInOrder cell net seats → KeepsSeats v access cell net seats x net seats x
+  seats-none net seats x order = record { accounts = keeps-none net seats order; faults = refl }
+
+  -- seats are freed twice in a row
+  pub seats-then : (a b c : Option (Served L C M)) (s t u : List (ConnectionSeat L)) (x y z : ℕ)
+      → KeepsSeats v access cell a s x b t y → KeepsSeats v access cell b t y c u z → KeepsSeats v access cell a s x c u z
+  seats-then a b c s t u x y z one later = record { accounts = keeps-still 0 a b c s t u one.accounts later.accounts; faults = later.faults ∙ one.faults }
+
+  -- the same of a number of links of which something is known, and of the faults
+  pub accepts-still : (answer : Result Unit NetFault) (IsKnown : ℕ → Type 0) (a b c : Option (Served L C M)) (s t u : List (ConnectionSeat L)) (x y z : ℕ)
+      → AcceptsLinks v access cell answer IsKnown a s x b t y → KeepsSeats v access cell b t y c u z → AcceptsLinks v access cell answer IsKnown a s x c u z
+  accepts-still answer IsKnown a b c s t u x y z one later = record {
     count = one.count;
     known = one.known;
-    keeps = keeps-still one.count a b c s t u one.keeps later;
+    keeps = keeps-still one.count a b c s t u one.keeps later.accounts;
+    faults = subst (λ n. CountsFaults answer x n) (sym later.faults) one.faults;
   }
 
   -- a connection is over: its seat becomes free, and its link is released

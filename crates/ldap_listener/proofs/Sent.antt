@@ -55,15 +55,15 @@ upstream_sync = declared_sync Upstream.the_type (texts.the_sync, (spec_sync, (as
 allocator_sync : IsSync (Global.the_field).row
 allocator_sync = search sendable depth 20
 
-module _ (a : NamedLft) (R K G : RattleType) (r : IsSync R) (k : IsSync K) (g : IsSync G) where
+module _ (a : NamedLft) (R G : RattleType) (r : IsSync R) (g : IsSync G) where
   -- a reference to what threads may share
   shared : (S : RattleType) → IsSync S → IsSync (ShrRef a.mir a.lft S)
   shared S = shr_sync a.mir a.lft S
 
   -- threads may share what they are given to share
-  server_sync : IsSync (Server.the_row a R K G)
+  server_sync : IsSync (Server.the_row a R G)
   server_sync =
-      declared_sync (Server.the_type a R K G) (
+      declared_sync (Server.the_type a R G) (
         as_row_sync (row_field (ShrRef a.mir a.lft R)) (shared R r),
         (
           as_row_sync Global.the_field allocator_sync,
@@ -72,38 +72,44 @@ module _ (a : NamedLft) (R K G : RattleType) (r : IsSync R) (k : IsSync K) (g : 
             (
               as_row_sync (shr_ref_field a Access.the_row tt) (shared Access.the_row accesses.the_sync),
               (
-                as_row_sync (row_field K) k,
-                (
-                  as_row_sync (row_field (ShrRef a.mir a.lft G)) (shared G g),
-                  (as_row_sync (shr_ref_field a Bell.the_row tt) (shared Bell.the_row bells.the_sync), tt),
-                ),
+                as_row_sync (row_field (ShrRef a.mir a.lft G)) (shared G g),
+                (as_row_sync (shr_ref_field a Bell.the_row tt) (shared Bell.the_row bells.the_sync), tt),
               ),
             ),
           ),
         ),
       )
 
-  module _ (L : RattleType) (link : IsSend L) (name : List ℕ) (b : NamedLft) where
-    server_send : IsSend (shr_ref_field b (Server.the_row a R K G) tt).row
-    server_send = shr_send b.mir b.lft (Server.the_row a R K G) server_sync
+  module _ (K L : RattleType) (clock : IsSend K) (link : IsSend L) (name : List ℕ) (b : NamedLft) where
+    server_send : IsSend (shr_ref_field b (Server.the_row a R G) tt).row
+    server_send = shr_send b.mir b.lft (Server.the_row a R G) server_sync
 
     number_send : IsSend (u64-field).row
     number_send = search sendable depth 20
 
-    -- what the closure has that serves a link: what all threads share, two numbers, a pass and the
-    -- link
+    -- what the closure has that serves a link: what all threads share, a clock, two numbers, a pass
+    -- and the link
     abbrev given : Declared
-    given = type_at name ((shr_ref_field b (Server.the_row a R K G) tt).row ∷ (u64-field).row ∷ (u64-field).row ∷ one_pass ∷ L ∷ [])
+    given =
+        type_at name ((shr_ref_field b (Server.the_row a R G) tt).row ∷ K ∷ (u64-field).row ∷ (u64-field).row ∷ one_pass ∷ L ∷ [])
 
     -- what the thread of a connection is given may go there
     pub given_send : IsSend (row given)
-    given_send = declared_send given (server_send, (number_send, (number_send, (pass_send ghosts, (as_row_send (row_field L) link, tt)))))
+    given_send =
+        declared_send given (
+          server_send,
+          (
+            as_row_send (row_field K) clock,
+            (number_send, (number_send, (pass_send ghosts, (as_row_send (row_field L) link, tt)))),
+          ),
+        )
 
-  module _ (D : RattleType) (dial : IsSend D) (name : List ℕ) (b c : NamedLft) where
-    -- what the closure has that follows an upstream: what all threads share, a pass, a dialler, the
-    -- upstream and a number
+  module _ (K D : RattleType) (clock : IsSend K) (dial : IsSend D) (name : List ℕ) (b c : NamedLft) where
+    -- what the closure has that follows an upstream: what all threads share, a clock, a pass, a
+    -- dialler, the upstream and a number
     abbrev followed_given : Declared
-    followed_given = type_at name ((shr_ref_field b (Server.the_row a R K G) tt).row ∷ one_pass ∷ D ∷ (shr_ref_field c Upstream.the_row tt).row ∷ (u64-field).row ∷ [])
+    followed_given =
+        type_at name ((shr_ref_field b (Server.the_row a R G) tt).row ∷ K ∷ one_pass ∷ D ∷ (shr_ref_field c Upstream.the_row tt).row ∷ (u64-field).row ∷ [])
 
     count_send : IsSend (u64-field).row
     count_send = search sendable depth 20
@@ -112,9 +118,12 @@ module _ (a : NamedLft) (R K G : RattleType) (r : IsSync R) (k : IsSync K) (g : 
     pub followed_given_send : IsSend (row followed_given)
     followed_given_send =
         declared_send followed_given (
-          shr_send b.mir b.lft (Server.the_row a R K G) server_sync,
+          shr_send b.mir b.lft (Server.the_row a R G) server_sync,
           (
-            pass_send ghosts,
-            (as_row_send (row_field D) dial, (shr_send c.mir c.lft Upstream.the_row upstream_sync, (count_send, tt))),
+            as_row_send (row_field K) clock,
+            (
+              pass_send ghosts,
+              (as_row_send (row_field D) dial, (shr_send c.mir c.lft Upstream.the_row upstream_sync, (count_send, tt))),
+            ),
           ),
         )

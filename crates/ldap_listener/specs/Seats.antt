@@ -134,15 +134,6 @@ pub record KeepsAccounts {L C M : Type 0}
   pub order : AreInOrder cell new seats'
   pub accounts : AccountsForMore v access k old seats new seats'
 
--- the same of a number of links of which this is known
-pub record AcceptsLinks {L C M : Type 0}
-    (v : LinkView L) (access : Access) (cell : TableId) (IsKnown : ℕ → Type 0)
-    (old : Option (Served L C M)) (seats : List (ConnectionSeat L))
-    (new : Option (Served L C M)) (seats' : List (ConnectionSeat L)) : Type 0 where
-  pub count : ℕ
-  pub known : IsKnown count
-  pub keeps : KeepsAccounts v access cell count old seats new seats'
-
 -- ---- faults of a net
 
 -- the net counted a fault where it failed, and else none
@@ -150,3 +141,26 @@ pub record CountsFaults {T : Type 0} (answer : Result T NetFault) (old new : ℕ
   pub failed : IsErrOf answer Failed → CountHasRisen old new
   pub faultless : ¬ (IsErrOf answer Failed) → new ≡ old
   pub later : old ≤ new
+
+-- ---- what an acceptor does
+
+-- No link was accepted: each is accounted for as before, net and seats are in order, and the net
+-- counted no fault.
+pub record KeepsSeats {L C M : Type 0}
+    (v : LinkView L) (access : Access) (cell : TableId)
+    (old : Option (Served L C M)) (seats : List (ConnectionSeat L)) (before : ℕ)
+    (new : Option (Served L C M)) (seats' : List (ConnectionSeat L)) (after : ℕ) : Type 0 where
+  pub accounts : KeepsAccounts v access cell 0 old seats new seats'
+  pub faults : after ≡ before
+
+-- Links were accepted, of whose number this is known: each is accounted for, net and seats are in
+-- order, and the net counted a fault where it failed, and else none.
+pub record AcceptsLinks {L C M : Type 0}
+    (v : LinkView L) (access : Access) (cell : TableId)
+    (answer : Result Unit NetFault) (IsKnown : ℕ → Type 0)
+    (old : Option (Served L C M)) (seats : List (ConnectionSeat L)) (before : ℕ)
+    (new : Option (Served L C M)) (seats' : List (ConnectionSeat L)) (after : ℕ) : Type 0 where
+  pub count : ℕ
+  pub known : IsKnown count
+  pub keeps : KeepsAccounts v access cell count old seats new seats'
+  pub faults : CountsFaults answer before after

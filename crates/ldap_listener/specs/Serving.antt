@@ -11,7 +11,7 @@ use Rattle.shared_directory.specs.Desks.{NumberedState, port_in, port_journal}
 use Rattle.shared_directory.specs.Passes.{directory_id, first_port, made_with, port_of, ports_of}
 use Rattle.shared_directory.specs.declared.directory.SharedDirectory.{SharedDirectory}
 use Rattle.ldap_session.specs.declared.access.Access.{Access}
-use Rattle.ldap_listener.specs.Seats.{AcceptsLinks, AllFree, AllSeated, CountsFaults, IsReported, IsServed, ConnectionSeat, busy, free, vacant}
+use Rattle.ldap_listener.specs.Seats.{AcceptsLinks, AllFree, AllSeated, IsReported, IsServed, ConnectionSeat, busy, free, vacant}
 use Rattle.ldap_listener.specs.Sessions.{Chain, LinkView, ServedSession, sessions_of}
 
 -- ---- the seats of a directory before the first connection and after the last one
@@ -106,5 +106,5 @@ pub record ServesLinks {L C M : Type 0}
     (new : Option (Served L C M)) (seats' : List (ConnectionSeat L)) (after : ℕ) : Type 0 where
   pub count : length seats' ≡ length seats
   pub free : AllFree seats'
-  pub accounts : AcceptsLinks v access cell (λ k. IsAll answer connections k) old seats new seats'
-  pub faults : CountsFaults answer before after
+  pub accepts : AcceptsLinks v access cell answer (λ k. IsAll answer connections k)
+      old seats before new seats' after

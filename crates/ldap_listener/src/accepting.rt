@@ -3,7 +3,7 @@
 ghost use Rattle.std.specs.Prelude.{◌≡◌, ℕ, map, IfErr, IfOk, OnOk};
 ghost use Rattle.turn_cell.specs.Passes.{cell_of, view_of};
 ghost use Rattle.shared_directory.specs.Passes.{IsPassOf, directory_id, port_of};
-ghost use Rattle.ldap_listener.specs.Seats.{AcceptsLinks, AreInOrder, CountsFaults};
+ghost use Rattle.ldap_listener.specs.Seats.{AcceptsLinks, AreInOrder};
 ghost use Rattle.ldap_listener.specs.SeatsOfCode.{seat_of};
 ghost use Rattle.ldap_listener.specs.Serving.{IsAll, ServesLinks};
 ghost use Rattle.ldap_listener.specs.Sessions.{HasServed, seen_by};
@@ -22,15 +22,17 @@ use std::{mem, thread};
 use sync_io::{Clock, Net, NetFault};
 
 /// Serves a link on a thread of its own, or here where none can be made.
-fn start<'s, E, R: Threads + Wait + Sync, N: Net, K: Clock + Sync, G: Gate + Sync>(
+fn start<'s, E, R: Threads + Wait + Sync, N: Net, K: Clock, G: Gate + Sync>(
     scope: &Scope<'s, E>,
-    server: &'s Server<'s, R, K, G>,
+    server: &'s Server<'s, R, G>,
+    clock: K,
     place: usize,
     number: u64,
     pass: DirectoryPass,
     link: N::Link,
 ) -> Result<PromisedHandle<EndedConnection<N::Link>, ServesOne<N::Link>>, EndedConnection<N::Link>>
 where
+    K: 's,
     N::Link: 's,
     requires pass { IsPassOf (directory_id server.now.directory.now) pass }
     ensures ok { IfOk result (λ child. (child.promise.pass.value ≡ pass)
@@ -50,7 +52,7 @@ where
     };
     let serve = move || -> EndedConnection<N::Link>
         requires { IsPassOf (directory_id server.now.directory.now) pass }
-    { serve_one(server, place, number, pass, link) };
+    { serve_one(server, clock, place, number, pass, link) };
     match scope.spawn_with(serves, serve) {
         Ok(child) => Ok(child),
         Err(refused) => Err((refused.value)()),
@@ -58,25 +60,27 @@ where
 }
 
 /// Accepts a link, and starts its thread. A seat is free before a link is accepted.
-fn accept_one<'s, E, R: Threads + Wait + Sync, N: Net, K: Clock + Sync, G: Gate + Sync>(
+fn accept_one<'s, E, R: Threads + Wait + Sync, N: Net, K: Clock, G: Gate + Sync>(
     scope: &Scope<'s, E>,
-    server: &'s Server<'s, R, K, G>,
+    server: &'s Server<'s, R, G>,
+    clock: K,
     net: &mut N,
     door: &mut N::Door,
     seats: &mut [Seat<N::Link>],
     number: u64,
 ) -> Result<(), NetFault>
 where
+    K: 's,
     N::Link: 's,
     requires order { AreInOrder (directory_id server.now.directory.now)
         (N.served net.old) (map seat_of seats.old) }
-    ensures accounts { AcceptsLinks
+    ensures { AcceptsLinks
         (seen_by N.Link.bytes_left N.Link.bytes_read N.Link.bytes_held
         N.Link.read_fault_count N.Link.write_fault_count)
         server.entry.now.access.now (directory_id server.entry.now.directory.now)
-        (λ k. OnOk result (k ≡ 1))
-        (N.served net.old) (map seat_of seats.old) (N.served net.new) (map seat_of seats.new) }
-    ensures faults { CountsFaults result (N.net_fault_count net.old) (N.net_fault_count net.new) }
+        result (λ k. OnOk result (k ≡ 1))
+        (N.served net.old) (map seat_of seats.old) (N.net_fault_count net.old)
+        (N.served net.new) (map seat_of seats.new) (N.net_fault_count net.new) }
 {
     let place = wait_for_seat(server, net, seats);
     let link = match net.accept(door) {
@@ -86,7 +90,7 @@ where
     let Seat::Free(pass) = mem::replace(&mut seats[place], Seat::Vacant) else {
         unreachable!()
     };
-    match start::<_, R, N, K, G>(scope, server, place, number, pass, link) {
+    match start::<_, R, N, K, G>(scope, server, clock, place, number, pass, link) {
         Ok(child) => seats[place] = Seat::Busy(child),
         Err(served) => {
             let EndedConnection {
@@ -102,25 +106,27 @@ where
 }
 
 /// Accepts n links, or links without end where n is 0.
-fn accept_all<'s, E, R: Threads + Wait + Sync, N: Net, K: Clock + Sync, G: Gate + Sync>(
+fn accept_all<'s, E, R: Threads + Wait + Sync, N: Net, K: Clock, G: Gate + Sync>(
     scope: &Scope<'s, E>,
-    server: &'s Server<'s, R, K, G>,
+    server: &'s Server<'s, R, G>,
+    clock: K,
     net: &mut N,
     door: &mut N::Door,
     seats: &mut [Seat<N::Link>],
     connections: u64,
 ) -> Result<(), NetFault>
 where
+    K: 's,
     N::Link: 's,
     requires order { AreInOrder (directory_id server.now.directory.now)
         (N.served net.old) (map seat_of seats.old) }
-    ensures accounts { AcceptsLinks
+    ensures { AcceptsLinks
         (seen_by N.Link.bytes_left N.Link.bytes_read N.Link.bytes_held
         N.Link.read_fault_count N.Link.write_fault_count)
         server.entry.now.access.now (directory_id server.entry.now.directory.now)
-        (λ k. IsAll result connections k)
-        (N.served net.old) (map seat_of seats.old) (N.served net.new) (map seat_of seats.new) }
-    ensures faults { CountsFaults result (N.net_fault_count net.old) (N.net_fault_count net.new) }
+        result (λ k. IsAll result connections k)
+        (N.served net.old) (map seat_of seats.old) (N.net_fault_count net.old)
+        (N.served net.new) (map seat_of seats.new) (N.net_fault_count net.new) }
 {
     let mut number: u64 = 0;
     for _ in server.rt.forever() {
@@ -128,7 +134,7 @@ where
             return Ok(());
         }
         number = number.saturating_add(1);
-        match accept_one(scope, server, net, door, seats, number) {
+        match accept_one(scope, server, clock, net, door, seats, number) {
             Ok(()) => {}
             Err(fault) => return Err(fault),
         }
@@ -137,8 +143,9 @@ where
 }
 
 /// Serves the links of a door, and frees all seats.
-pub(crate) fn serve_links<R: Threads + Wait + Sync, N: Net, K: Clock + Sync, G: Gate + Sync>(
-    server: &Server<'_, R, K, G>,
+pub(crate) fn serve_links<R: Threads + Wait + Sync, N: Net, K: Clock, G: Gate + Sync>(
+    server: &Server<'_, R, G>,
+    clock: K,
     net: &mut N,
     door: N::Door,
     seats: Vec<Seat<N::Link>>,
@@ -173,7 +180,7 @@ pub(crate) fn serve_links<R: Threads + Wait + Sync, N: Net, K: Clock + Sync, G: 
             let mut door = door;
             let mut seats = seats;
             let places = seats.as_mut_slice();
-            let accepted = accept_all(scope, server, net, &mut door, places, connections);
+            let accepted = accept_all(scope, server, clock, net, &mut door, places, connections);
             free_all(server, net, places);
             (accepted, seats, net)
         },

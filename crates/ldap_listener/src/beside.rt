@@ -51,11 +51,12 @@ struct Followed<D> {
 
 /// Serves the links of a door over the provider's directory, and meanwhile follows an upstream at
 /// one more port of it: the two halves of one join. Where no thread can be made, the links are
-/// served first.
+/// served first. It is `NoMemory` only before the first link is asked for, and then the net is as
+/// before. It may wait.
 pub fn serve_replica<
-    R: Threads + Wait + Eprint + Sync,
+    R: Threads + Wait + Sync,
     N: Net,
-    K: Clock + Sync,
+    K: Clock,
     G: Gate + Sync,
     D: Dial + Send + Drop,
 >(
@@ -106,12 +107,12 @@ pub fn serve_replica<
         alloc,
         directory: &directory,
         access,
-        clock,
         gate,
         bell: &bell,
     };
     let (accepted, seats, followed) = serve_beside(
         &server,
+        clock,
         net,
         door,
         seats,
@@ -157,14 +158,9 @@ fn open_beside<N: Net>(
 }
 
 /// The two halves: the acceptor with its connections, and the replica at the port of this pass.
-fn serve_beside<
-    R: Threads + Wait + Eprint + Sync,
-    N: Net,
-    K: Clock + Sync,
-    G: Gate + Sync,
-    D: Dial + Send + Drop,
->(
-    server: &Server<'_, R, K, G>,
+fn serve_beside<R: Threads + Wait + Sync, N: Net, K: Clock, G: Gate + Sync, D: Dial + Send + Drop>(
+    server: &Server<'_, R, G>,
+    clock: K,
     net: &mut N,
     door: N::Door,
     seats: Vec<Seat<N::Link>>,
@@ -208,7 +204,7 @@ fn serve_beside<
             })
             rounds (port_of (view_of pass)) (D.dialled dial) result.end
             (port_of (view_of result.pass)) (D.dialled result.dial) }
-    { follow_upstream(server, pass, dial, upstream, rounds) };
+    { follow_upstream(server, clock, pass, dial, upstream, rounds) };
     let acceptor = move || -> (Result<(), NetFault>, Vec<Seat<N::Link>>, &mut N)
         requires { AreInOrder (directory_id server.now.directory.now)
             (N.served net.now) (map seat_of seats.items) }
@@ -221,7 +217,7 @@ fn serve_beside<
             (N.served net.entry.now) (map seat_of seats.items) (N.net_fault_count net.entry.now)
             (N.served result.2.now) (map seat_of result.1.items) (N.net_fault_count result.2.now) }
     {
-        let (accepted, seats) = serve_links(server, net, door, seats, connections);
+        let (accepted, seats) = serve_links(server, clock, net, door, seats, connections);
         (accepted, seats, net)
     };
     let (followed, (accepted, seats, _net)) = thread::join(server.rt, replica, acceptor);
@@ -229,8 +225,9 @@ fn serve_beside<
 }
 
 /// Follows an upstream at the port of a pass, which it gives back.
-fn follow_upstream<R: Wait + Eprint, K: Clock, G: Gate, D: Dial>(
-    server: &Server<'_, R, K, G>,
+fn follow_upstream<R: Wait, K: Clock, G: Gate, D: Dial>(
+    server: &Server<'_, R, G>,
+    clock: K,
     pass: DirectoryPass,
     dial: D,
     upstream: &Upstream,
@@ -254,7 +251,7 @@ fn follow_upstream<R: Wait + Eprint, K: Clock, G: Gate, D: Dial>(
         server.alloc,
         &mut desk,
         &mut dial,
-        server.clock,
+        clock,
         upstream,
         rounds,
     );

@@ -1,8 +1,8 @@
 //! How the seats of connections that are over become free.
 
-ghost use Rattle.std.specs.Prelude.{◌≡◌, ◌<◌, ℕ, length, map};
+ghost use Rattle.std.specs.Prelude.{◌<◌, ℕ, length, map};
 ghost use Rattle.shared_directory.specs.Passes.{directory_id};
-ghost use Rattle.ldap_listener.specs.Seats.{AllFree, AreInOrder, IsFreeAt, KeepsAccounts};
+ghost use Rattle.ldap_listener.specs.Seats.{AllFree, AreInOrder, IsFreeAt, KeepsSeats};
 ghost use Rattle.ldap_listener.specs.SeatsOfCode.{seat_of};
 ghost use Rattle.ldap_listener.specs.Sessions.{seen_by};
 
@@ -13,11 +13,11 @@ use ldap_server::Gate;
 use std::mem;
 use std::sync::Wait;
 use std::thread::Threads;
-use sync_io::{Clock, Net};
+use sync_io::Net;
 
 /// Waits for the thread of a seat that is busy, releases its link, and then frees the seat.
-fn free_seat<R: Threads + Wait, N: Net, K: Clock, G: Gate>(
-    server: &Server<'_, R, K, G>,
+fn free_seat<R: Threads + Wait, N: Net, G: Gate>(
+    server: &Server<'_, R, G>,
     net: &mut N,
     seats: &mut [Seat<N::Link>],
     place: usize,
@@ -25,15 +25,15 @@ fn free_seat<R: Threads + Wait, N: Net, K: Clock, G: Gate>(
     requires place { place < length seats.old }
     requires order { AreInOrder (directory_id server.now.directory.now)
         (N.served net.old) (map seat_of seats.old) }
-    ensures accounts { KeepsAccounts
+    ensures keeps { KeepsSeats
         (seen_by N.Link.bytes_left N.Link.bytes_read N.Link.bytes_held
         N.Link.read_fault_count N.Link.write_fault_count)
-        server.entry.now.access.now (directory_id server.entry.now.directory.now) 0
-        (N.served net.old) (map seat_of seats.old) (N.served net.new) (map seat_of seats.new) }
+        server.entry.now.access.now (directory_id server.entry.now.directory.now)
+        (N.served net.old) (map seat_of seats.old) (N.net_fault_count net.old)
+        (N.served net.new) (map seat_of seats.new) (N.net_fault_count net.new) }
     ensures free { IsFreeAt (map seat_of seats.new) place }
     ensures kept { (k : ℕ) → IsFreeAt (map seat_of seats.old) k
         → IsFreeAt (map seat_of seats.new) k }
-    ensures faults { N.net_fault_count net.new ≡ N.net_fault_count net.old }
 {
     match mem::replace(&mut seats[place], Seat::Vacant) {
         Seat::Busy(child) => {
@@ -50,19 +50,19 @@ fn free_seat<R: Threads + Wait, N: Net, K: Clock, G: Gate>(
 }
 
 /// Frees the seats for which the bell has rung.
-pub(crate) fn free_rung<R: Threads + Wait, N: Net, K: Clock, G: Gate>(
-    server: &Server<'_, R, K, G>,
+pub(crate) fn free_rung<R: Threads + Wait, N: Net, G: Gate>(
+    server: &Server<'_, R, G>,
     net: &mut N,
     seats: &mut [Seat<N::Link>],
 )
     requires order { AreInOrder (directory_id server.now.directory.now)
         (N.served net.old) (map seat_of seats.old) }
-    ensures accounts { KeepsAccounts
+    ensures { KeepsSeats
         (seen_by N.Link.bytes_left N.Link.bytes_read N.Link.bytes_held
         N.Link.read_fault_count N.Link.write_fault_count)
-        server.entry.now.access.now (directory_id server.entry.now.directory.now) 0
-        (N.served net.old) (map seat_of seats.old) (N.served net.new) (map seat_of seats.new) }
-    ensures faults { N.net_fault_count net.new ≡ N.net_fault_count net.old }
+        server.entry.now.access.now (directory_id server.entry.now.directory.now)
+        (N.served net.old) (map seat_of seats.old) (N.net_fault_count net.old)
+        (N.served net.new) (map seat_of seats.new) (N.net_fault_count net.new) }
 {
     for place in 0..seats.len() {
         if server.bell.has_rung(place) {
@@ -72,20 +72,20 @@ pub(crate) fn free_rung<R: Threads + Wait, N: Net, K: Clock, G: Gate>(
 }
 
 /// Frees all seats.
-pub(crate) fn free_all<R: Threads + Wait, N: Net, K: Clock, G: Gate>(
-    server: &Server<'_, R, K, G>,
+pub(crate) fn free_all<R: Threads + Wait, N: Net, G: Gate>(
+    server: &Server<'_, R, G>,
     net: &mut N,
     seats: &mut [Seat<N::Link>],
 )
     requires order { AreInOrder (directory_id server.now.directory.now)
         (N.served net.old) (map seat_of seats.old) }
-    ensures accounts { KeepsAccounts
+    ensures keeps { KeepsSeats
         (seen_by N.Link.bytes_left N.Link.bytes_read N.Link.bytes_held
         N.Link.read_fault_count N.Link.write_fault_count)
-        server.entry.now.access.now (directory_id server.entry.now.directory.now) 0
-        (N.served net.old) (map seat_of seats.old) (N.served net.new) (map seat_of seats.new) }
+        server.entry.now.access.now (directory_id server.entry.now.directory.now)
+        (N.served net.old) (map seat_of seats.old) (N.net_fault_count net.old)
+        (N.served net.new) (map seat_of seats.new) (N.net_fault_count net.new) }
     ensures free { AllFree (map seat_of seats.new) }
-    ensures faults { N.net_fault_count net.new ≡ N.net_fault_count net.old }
 {
     for place in 0..seats.len() {
         free_seat(server, net, seats, place);
@@ -93,21 +93,21 @@ pub(crate) fn free_all<R: Threads + Wait, N: Net, K: Clock, G: Gate>(
 }
 
 /// Waits until a seat is free.
-pub(crate) fn wait_for_seat<R: Threads + Wait, N: Net, K: Clock, G: Gate>(
-    server: &Server<'_, R, K, G>,
+pub(crate) fn wait_for_seat<R: Threads + Wait, N: Net, G: Gate>(
+    server: &Server<'_, R, G>,
     net: &mut N,
     seats: &mut [Seat<N::Link>],
 ) -> usize
     requires order { AreInOrder (directory_id server.now.directory.now)
         (N.served net.old) (map seat_of seats.old) }
-    ensures accounts { KeepsAccounts
+    ensures keeps { KeepsSeats
         (seen_by N.Link.bytes_left N.Link.bytes_read N.Link.bytes_held
         N.Link.read_fault_count N.Link.write_fault_count)
-        server.entry.now.access.now (directory_id server.entry.now.directory.now) 0
-        (N.served net.old) (map seat_of seats.old) (N.served net.new) (map seat_of seats.new) }
+        server.entry.now.access.now (directory_id server.entry.now.directory.now)
+        (N.served net.old) (map seat_of seats.old) (N.net_fault_count net.old)
+        (N.served net.new) (map seat_of seats.new) (N.net_fault_count net.new) }
     ensures place { result < length seats.new }
     ensures free { IsFreeAt (map seat_of seats.new) result }
-    ensures faults { N.net_fault_count net.new ≡ N.net_fault_count net.old }
 {
     for _ in server.rt.forever() {
         let count = server.bell.count();

@@ -128,7 +128,7 @@ pub(crate) fn close_all<N: Net>(
 /// Serves the links of a door, each on a thread of its own, over the provider's directory, and
 /// gives the provider back. The second part says whether the net failed. It is `NoMemory` only
 /// before the first link is asked for.
-pub fn serve_directory<R: Threads + Wait + Sync, N: Net, K: Clock + Sync, G: Gate + Sync>(
+pub fn serve_directory<R: Threads + Wait + Sync, N: Net, K: Clock, G: Gate + Sync>(
     rt: &R,
     alloc: Global,
     provider: Provider,
@@ -166,11 +166,10 @@ pub fn serve_directory<R: Threads + Wait + Sync, N: Net, K: Clock + Sync, G: Gat
         alloc,
         directory: &directory,
         access,
-        clock,
         gate,
         bell: &bell,
     };
-    let (accepted, seats) = serve_links(&server, net, door, seats, limits.connections);
+    let (accepted, seats) = serve_links(&server, clock, net, door, seats, limits.connections);
     drop(server);
     Ok((close_seats::<N>(directory, seats, room), accepted))
 }

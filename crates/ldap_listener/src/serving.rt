@@ -29,8 +29,8 @@ fn copy_of(access: &Access) -> Result<Access, NoMemory>
 }
 
 /// A session that has just begun, or the desk where memory runs out.
-fn begin<'a, R: Wait, K: Clock, G: Gate>(
-    server: &Server<'a, R, K, G>,
+fn begin<'a, R: Wait, G: Gate>(
+    server: &Server<'a, R, G>,
     desk: Desk<'a, R>,
 ) -> Result<Connection<Desk<'a, R>>, Desk<'a, R>>
     ensures ok { IfOk result (λ connection. connected_by (λ d. port_of (view_or d.pass)) connection
@@ -50,7 +50,8 @@ fn begin<'a, R: Wait, K: Clock, G: Gate>(
 
 /// Serves a connection to its end over the port of a pass, which it gives back.
 fn serve_link<R: Wait, L: Link, K: Clock, G: Gate>(
-    server: &Server<'_, R, K, G>,
+    server: &Server<'_, R, G>,
+    clock: K,
     number: u64,
     pass: DirectoryPass,
     link: &mut L,
@@ -71,7 +72,7 @@ fn serve_link<R: Wait, L: Link, K: Clock, G: Gate>(
                 number,
                 &mut connection,
                 link,
-                server.clock,
+                clock,
                 server.gate,
             );
             (connection.into_port().leave(), ended)
@@ -82,7 +83,8 @@ fn serve_link<R: Wait, L: Link, K: Clock, G: Gate>(
 
 /// Serves a connection to its end, and rings.
 pub(crate) fn serve_one<R: Wait, L: Link, K: Clock, G: Gate>(
-    server: &Server<'_, R, K, G>,
+    server: &Server<'_, R, G>,
+    clock: K,
     place: usize,
     number: u64,
     pass: DirectoryPass,
@@ -96,7 +98,7 @@ pub(crate) fn serve_one<R: Wait, L: Link, K: Clock, G: Gate>(
         (port_of (view_of result.pass)) result.link }
 {
     let mut link = link;
-    let (pass, ended) = serve_link(server, number, pass, &mut link);
+    let (pass, ended) = serve_link(server, clock, number, pass, &mut link);
     server.bell.ring(place);
     EndedConnection { pass, link, ended }
 }

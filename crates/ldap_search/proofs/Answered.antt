@@ -30,7 +30,7 @@ use Rattle.ldap_search.specs.Steps.{IsPrinted, PrintsNext, PrintsPart, StopsPrin
 use Rattle.ldap_search.specs.Talks.{Answers, AnswersInPart, AsksPlainly, AsksPlainlyInPart, OutputState, end_by}
 use Rattle.ldap_search.specs.declared.end.SearchEnd.{SearchEnd}
 use Rattle.ldap_search.specs.declared.end.SearchEnd.TheVariants.{Done, NetFault, OutputFault, PeerFault}
-use Rattle.ldap_search.proofs.Reading.{ended_early, prefix_after, read_before, read_so_far, read_up_to, reading_fails, refused_early, sound_ended, sound_refused, still_sound}
+use Rattle.ldap_search.proofs.Reading.{ended_early, prefix_after, read_before, read_so_far, read_up_to, reading_fails, refused_early, sound_ended, sound_refused, sound_stopped, still_sound}
 use Rattle.ldap_search.proofs.Writing.{unwritten}
 
 -- the text of one message more
@@ -195,13 +195,21 @@ stops_printing client output message (Ok end) client' output' gives same = tt
 stops_printing client output message (Err fault) client' output' gives same = λ first start messages so_far. (
   read_before first messages (message_value message) client' (given_next first messages client client' message so_far.given gives),
   subst (λ (now : OutputState). Appends start.held now.held (texts_of messages)) (sym same) so_far.printed,
+  (still_sound first client client' message (so_far.reads, so_far.writes) gives, ap (λ (now : OutputState). now.faults) same ∙ so_far.faults),
 )
 
 -- or before the next was given
 pub stops_reading : {E : Type 0} (client : ClientState) (output : OutputState) (fault : ClientFault) (result : Result (Option SearchEnd) E) (client' : ClientState)
-    → GivesNext client (Err fault) client' → OnErr result (StopsPrinting client output client' output)
-stops_reading client output fault (Ok end) client' gives = tt
-stops_reading client output fault (Err memory) client' gives = λ first start messages so_far. (read_so_far first messages client client' fault so_far.given gives, so_far.printed)
+    → GivesNext client (Err fault) client' → OnErr result (fault ≡ fault_of.NoMemory) → OnErr result (StopsPrinting client output client' output)
+stops_reading client output fault (Ok end) client' gives memory = tt
+stops_reading client output fault (Err none) client' gives memory = λ first start messages so_far. (
+  read_so_far first messages client client' fault so_far.given gives,
+  so_far.printed,
+  (
+    sound_stopped first client client' (so_far.reads, so_far.writes) (subst (λ (f : ClientFault). GivesNext client (Err f) client') memory gives),
+    so_far.faults,
+  ),
+)
 
 -- the client answers no fault where the search goes on
 pub live_after : {E : Type 0} (result : Result (Option SearchEnd) E) (now : Option ClientFault) → now ≡ None → IfOk result (λ end. end ≡ None → now ≡ None)
@@ -259,7 +267,8 @@ plainly_in_part (Err fault) spec old mid new output output' begun asks held answ
 pub plainly_unasked : {E : Type 0} (fault : ClientFault) (result : Result SearchEnd E) (spec : Search) (old new : ClientState) (output : OutputState)
     → Asks (message_octets (plain_request spec)) old (Err fault) new → OnErr result (fault ≡ fault_of.NoMemory) → OnErr result (AsksPlainlyInPart spec old.link new.link output output)
 plainly_unasked fault (Ok end) spec old new output asks memory = tt
-plainly_unasked fault (Err none) spec old new output asks memory = inl (unwritten (message_octets (plain_request spec)) fault old new asks memory, refl)
+plainly_unasked fault (Err none) spec old new output asks memory =
+    let same = unwritten (message_octets (plain_request spec)) fault old new asks memory in inl (same.0, same.1, refl)
 
 -- after the request is written the answer that is printed is that of this search
 pub plainly_asked_ok : {E : Type 0} (result : Result SearchEnd E) (spec : Search) (old mid : ClientState) (new : LinkState) (output output' : OutputState) → old ≡ fresh old.link

@@ -10,7 +10,7 @@ use Rattle.sync_io.specs.Net.{Served, calls}
 use Rattle.sync_model.specs.Copy.{Copy}
 use Rattle.ldap_search.specs.Calls.{CallsInPart, CallsOnce, HangsUp, HungUp, HungUpInPart, IsNew, Talks, TalksInPart}
 use Rattle.ldap_search.specs.Copies.{TakenMessage}
-use Rattle.ldap_search.specs.Talks.{EndsFollowing, FaultsEnd, IsLinkSound, OutputState}
+use Rattle.ldap_search.specs.Talks.{AreFaultless, EndsFollowing, FaultsEnd, IsLinkSound, OutputState}
 use Rattle.ldap_search.specs.declared.end.SearchEnd.{SearchEnd}
 use Rattle.ldap_search.specs.declared.end.SearchEnd.TheVariants.{Done, NetFault, OutputFault, PeerFault}
 
@@ -108,32 +108,40 @@ called state address spec count before mid after faults faults' old new end link
 
 -- nothing was done over it
 pub not_talked : (spec : Search) (count : Option ℕ) (first now : LinkState) (old : OutputState) → now ≡ first → TalksInPart spec count first now old old
-not_talked spec None first now old same = inl (ap (λ (l : LinkState). l.held) same, refl)
-not_talked spec (Some count) first now old same = inl (ap (λ (l : LinkState). l.held) same, refl)
+not_talked spec None first now old same = inl (
+  ap (λ (l : LinkState). l.held) same,
+  (ap (λ (l : LinkState). l.read_faults) same, ap (λ (l : LinkState). l.write_faults) same),
+  refl,
+)
+not_talked spec (Some count) first now old same = inl (
+  ap (λ (l : LinkState). l.held) same,
+  (ap (λ (l : LinkState). l.read_faults) same, ap (λ (l : LinkState). l.write_faults) same),
+  refl,
+)
 
 -- what a search did over a link up to where memory ran out, which was hung up then
 pub hung_up_in_part : {L E : Type 0} (state : L → LinkState) (spec : Search) (count : Option ℕ) (result : Result SearchEnd E) (first link : LinkState) (back now : L) (before after : Option (Dialled L))
-    (old new : OutputState) → first ≡ link → back ≡ now → OnErr result (TalksInPart spec count first (state now) old new) → after ≡ option_map (hangs_up back) before
-    → OnErr result (HungUpInPart state spec count link old new before after)
-hung_up_in_part state spec count (Ok end) first link back now before after old new begun same talks hung = tt
-hung_up_in_part state spec count (Err fault) first link back now before after old new begun same talks hung = record {
+    (faults faults' : ℕ) (old new : OutputState) → first ≡ link → back ≡ now → OnErr result (TalksInPart spec count first (state now) old new)
+    → HangsUp ((state back).read_faults + (state back).write_faults) back before faults after faults' → OnErr result (HungUpInPart state spec count link old new before faults after faults')
+hung_up_in_part state spec count (Ok end) first link back now before after faults faults' old new begun same talks hangs = tt
+hung_up_in_part state spec count (Err fault) first link back now before after faults faults' old new begun same talks hangs = record {
   back = back;
   talks = subst (λ (l : LinkState). TalksInPart spec count l (state back) old new) begun (subst (λ b. TalksInPart spec count first (state b) old new) (sym same) talks);
-  dialled = hung;
+  hangs_up = hangs;
 }
 
 -- the same of a dialler that gave it
-pub called_in_part : {L E : Type 0} (state : L → LinkState) (address : List ℕ) (spec : Search) (count : Option ℕ) (result : Result SearchEnd E) (before mid after : Option (Dialled L)) (old new : OutputState)
-    (link : L) → mid ≡ option_map (dials address true) before → IsNew before (state link) → OnErr result (HungUpInPart state spec count (state link) old new mid after)
-    → OnErr result (CallsInPart state address spec count before old after new)
-called_in_part state address spec count (Ok end) before mid after old new link dialled fresh hung = tt
-called_in_part state address spec count (Err fault) before mid after old new link dialled fresh hung = record {
+pub called_in_part : {L E : Type 0} (state : L → LinkState) (address : List ℕ) (spec : Search) (count : Option ℕ) (result : Result SearchEnd E) (before mid after : Option (Dialled L)) (faults faults' : ℕ)
+    (old new : OutputState) (link : L) → mid ≡ option_map (dials address true) before → IsNew before (state link)
+    → OnErr result (HungUpInPart state spec count (state link) old new mid faults after faults') → OnErr result (CallsInPart state address spec count before old after new)
+called_in_part state address spec count (Ok end) before mid after faults faults' old new link dialled fresh hung = tt
+called_in_part state address spec count (Err fault) before mid after faults faults' old new link dialled fresh hung = record {
   came = inr (
     state link,
     hung.back,
     fresh,
     hung.talks,
-    hung.dialled ∙ ap (λ (d : Option (Dialled _)). option_map (hangs_up hung.back) d) dialled,
+    hung.hangs_up.dialled ∙ ap (λ (d : Option (Dialled _)). option_map (hangs_up hung.back) d) dialled,
   );
 }
 
@@ -166,6 +174,28 @@ pub output_uncounted : {L : Type 0} (state : L → LinkState) (spec : Search) (c
 output_uncounted state spec count before after faults faults' old new end link hung =
     output_sound (state link) (state hung.back) old new end (faults_end spec count (state link) (state hung.back) old new end hung.talks)
 
+-- ---- no faults where memory ran out
+
+-- no call had failed
+faultless_in_part : (spec : Search) (count : Option ℕ) (first now : LinkState) (old new : OutputState) → TalksInPart spec count first now old new → AreFaultless first now old new
+faultless_in_part spec None first now old new (inl unasked) = (unasked.1, ap (λ (o : OutputState). o.faults) unasked.2)
+faultless_in_part spec None first now old new (inr asks) = asks.1.faults
+faultless_in_part spec (Some count) first now old new (inl unasked) = (unasked.1, ap (λ (o : OutputState). o.faults) unasked.2)
+faultless_in_part spec (Some count) first now old new (inr follows) = follows.faults
+
+-- so none is counted where the link is hung up
+pub link_sound_in_part : {L : Type 0} (state : L → LinkState) (spec : Search) (count : Option ℕ) (before after : Option (Dialled L)) (faults first faults' : ℕ) (old new : OutputState) (link : L)
+    → HasNoFaults (state link).read_faults (state link).write_faults → faults ≡ first → HungUpInPart state spec count (state link) old new before faults after faults' → faults' ≡ first
+link_sound_in_part state spec count before after faults first faults' old new link sound same hung =
+    let now = (faultless_in_part spec count (state link) (state hung.back) old new hung.talks).0 in
+    hung.hangs_up.sound (omega (arith, now.0, now.1, sound.reads, sound.writes)) ∙ same
+
+-- nor is one of the output
+pub output_sound_in_part : {L : Type 0} (state : L → LinkState) (spec : Search) (count : Option ℕ) (before after : Option (Dialled L)) (faults faults' : ℕ) (old new : OutputState) (link : L)
+    → HungUpInPart state spec count (state link) old new before faults after faults' → new.faults ≡ old.faults
+output_sound_in_part state spec count before after faults faults' old new link hung =
+    (faultless_in_part spec count (state link) (state hung.back) old new hung.talks).1
+
 -- ---- the net
 
 one_given : {L C M : Type 0} (before : Option (Served L C M)) → IfSome before (λ s. length s.retired + length s.gone ≤ s.callers)
@@ -173,7 +203,7 @@ one_given : {L C M : Type 0} (before : Option (Served L C M)) → IfSome before 
 one_given None within = tt
 one_given (Some s) within = omega (arith, within)
 
--- a caller that was given can be retired
+-- a caller that was given can be retired or let go
 pub room_to_retire : {L C M : Type 0} (before now : Option (Served L C M)) → now ≡ option_map (calls true) before
     → IfSome before (λ s. length s.retired + length s.gone ≤ s.callers) → IfSome now (λ s. length s.retired + length s.gone < s.callers)
 room_to_retire {L} {C} {M} before now given within =

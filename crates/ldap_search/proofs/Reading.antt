@@ -1,5 +1,5 @@
 -- What a client has read, in the words of a search.
-use Rattle.std.proofs.Common.{◌≡◌, ◌≤◌, ℕ, List, [], ◌∷◌, ◌++◌, map, Option, Ok, Err, inl, inr, sym, ap, subst, ◌∙◌, append_assoc, arith}
+use Rattle.std.proofs.Common.{◌≡◌, ℕ, List, [], ◌∷◌, ◌++◌, map, Option, Ok, Err, inl, inr, sym, ap, subst, ◌∙◌, append_assoc}
 use Rattle.std.proofs.KnownBytes.{Appends-trans}
 use Rattle.std.proofs.lemmas.List.{append-nil}
 use Rattle.std.specs.Io.KnownBytes.{Appends}
@@ -7,17 +7,13 @@ use Rattle.ldap_client.proofs.Given.{all_read, arrived-push, given_fault, read_e
 use Rattle.ldap_client.specs.Clients.{ClientState, GivesNext, HasGiven, HasRead}
 use Rattle.ldap_client.specs.Links.{LinkState}
 use Rattle.ldap_client.specs.declared.fault.ClientFault.{ClientFault}
-use Rattle.ldap_client.specs.declared.fault.ClientFault.TheVariants.{EndOfInput, PeerMessage, ReadFault}
+use Rattle.ldap_client.specs.declared.fault.ClientFault.TheVariants.{EndOfInput, NoMemory, PeerMessage, ReadFault}
 use Rattle.ldap_messages.specs.Whole.{MessageValue}
 use Rattle.ldap_messages.specs.declared.message.Message.{Message}
 use Rattle.ldap_session.specs.Incoming.{Arrived, Incoming, incoming_in}
-use Rattle.sync_io.specs.Faults.{CountHasRisen}
+use Rattle.sync_io.proofs.Sides.{rose_later}
 use Rattle.sync_io.specs.Sink.{AppendsPrefix}
 use Rattle.ldap_search.specs.Talks.{EndsEarly, HasReadAtLeast, HasReadUpTo, IsLinkSound, ReadingFails}
-
--- the count rose later than it was looked at
-pub rose_later : (first before now : ℕ) → first ≤ before → CountHasRisen before now → CountHasRisen first now
-rose_later first before now later rose = omega (arith, later, rose)
 
 -- some bytes were appended, and then a prefix of others
 pub prefix_after : (a b c : Option (List ℕ)) (xs ys : List ℕ) → Appends a b xs → AppendsPrefix b c ys → AppendsPrefix a c (xs ++ ys)
@@ -73,9 +69,14 @@ reading_fails first messages old new so_far gives =
 pub still_sound : (first : LinkState) (old new : ClientState) (message : Message) → IsLinkSound first old.link → GivesNext old (Ok message) new → IsLinkSound first new.link
 still_sound first old new message sound gives = (gives.faultless (λ e. let never : ⊥ = cc in never) ∙ sound.0, gives.reads.write_faults ∙ sound.1)
 
--- nor where what came is refused, or came to an end
+-- nor where what came is refused
 pub sound_refused : (first : LinkState) (old new : ClientState) (place : ℕ) → IsLinkSound first old.link → GivesNext old (Err (PeerMessage place)) new → IsLinkSound first new.link
 sound_refused first old new place sound gives = (gives.faultless (λ e. let never : ⊥ = cc in never) ∙ sound.0, gives.reads.write_faults ∙ sound.1)
 
+-- nor where the input came to an end
 pub sound_ended : (first : LinkState) (old new : ClientState) → IsLinkSound first old.link → GivesNext old (Err EndOfInput) new → IsLinkSound first new.link
 sound_ended first old new sound gives = (gives.faultless (λ e. let never : ⊥ = cc in never) ∙ sound.0, gives.reads.write_faults ∙ sound.1)
+
+-- nor where memory ran out
+pub sound_stopped : (first : LinkState) (old new : ClientState) → IsLinkSound first old.link → GivesNext old (Err NoMemory) new → IsLinkSound first new.link
+sound_stopped first old new sound gives = (gives.faultless (λ e. let never : ⊥ = cc in never) ∙ sound.0, gives.reads.write_faults ∙ sound.1)

@@ -56,4 +56,4 @@ pub stops_storing : {E : Type 0} (copy : Copy) (wanted : ℕ) (client client' : 
     → PrintsLast (stored_text copy.held) old.held old.faults Done new.held new.faults → OnErr result (IsUnwritten (message_octets unbind_request) client client')
     → OnErr result (StopsStoring copy wanted client old client' new)
 stops_storing copy wanted client client' old new (Ok end) last prints unwritten = tt
-stops_storing copy wanted client client' old new (Err fault) last prints unwritten = inr (last, unwritten, prints.0)
+stops_storing copy wanted client client' old new (Err fault) last prints unwritten = inr (last, unwritten, prints.0, prints.1)

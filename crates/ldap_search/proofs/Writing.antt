@@ -12,7 +12,7 @@ use Rattle.sync_messages.specs.declared.request.Mode.TheVariants.{RefreshAndPers
 use Rattle.ldap_search.specs.Answers.{search_id}
 use Rattle.ldap_search.specs.Requests.{unbind_request}
 use Rattle.ldap_search.specs.Steps.{IsUnwritten, StartsFollowing, Unbinds}
-use Rattle.ldap_search.specs.Talks.{end_by}
+use Rattle.ldap_search.specs.Talks.{IsLinkSound, end_by}
 use Rattle.ldap_search.specs.declared.end.SearchEnd.{SearchEnd}
 
 -- the same message was written
@@ -25,9 +25,10 @@ pub holds_anyway : {T E P : Type 0} (result : Result T E) → P → OnErr result
 holds_anyway (Ok value) holds = tt
 holds_anyway (Err fault) holds = holds
 
--- out of memory nothing was written
-pub unwritten : (octets : List ℕ) (fault : ClientFault) (old new : ClientState) → Asks octets old (Err fault) new → fault ≡ NoMemory → new.link.held ≡ old.link.held
-unwritten octets NoMemory old new asks is = asks.writes.0
+-- out of memory nothing was written, and no call failed
+pub unwritten : (octets : List ℕ) (fault : ClientFault) (old new : ClientState) → Asks octets old (Err fault) new → fault ≡ NoMemory
+    → (new.link.held ≡ old.link.held) × IsLinkSound old.link new.link
+unwritten octets NoMemory old new asks is = (asks.writes.0, (asks.read_faults, asks.writes.1))
 unwritten octets WriteFault old new asks is = absurd (let wrong : WriteFault ≡ NoMemory = is in cc)
 unwritten octets ReadFault old new asks is = absurd asks.writes
 unwritten octets (PeerMessage place) old new asks is = absurd asks.writes
@@ -35,7 +36,7 @@ unwritten octets EndOfInput old new asks is = absurd asks.writes
 
 -- so it is of the request of a search that is followed
 pub start_unwritten : {E : Type 0} (octets : List ℕ) (fault : ClientFault) (result : Result (Option SearchEnd) E) (old new : ClientState) → Asks octets old (Err fault) new → OnErr result (fault ≡ NoMemory)
-    → OnErr result (new.link.held ≡ old.link.held)
+    → OnErr result ((new.link.held ≡ old.link.held) × IsLinkSound old.link new.link)
 start_unwritten octets fault (Ok end) old new asks memory = tt
 start_unwritten octets fault (Err none) old new asks memory = unwritten octets fault old new asks memory
 

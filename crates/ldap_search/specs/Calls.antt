@@ -80,10 +80,12 @@ TalksInPart spec (Some count) first now old new = AsksToFollowInPart spec count 
 -- this was done over a link, which was hung up
 pub record HungUpInPart {L : Type 0}
     (state : L → LinkState) (spec : Search) (count : Option ℕ) (first : LinkState)
-    (old new : OutputState) (before after : Option (Dialled L)) : Type 0 where
+    (old new : OutputState) (before : Option (Dialled L)) (faults : ℕ)
+    (after : Option (Dialled L)) (faults' : ℕ) : Type 0 where
   pub back : L
   pub talks : TalksInPart spec count first (state back) old new
-  pub dialled : after ≡ option_map (hangs_up back) before
+  pub hangs_up : HangsUp ((state back).read_faults + (state back).write_faults) back
+      before faults after faults'
 
 -- a dialler was not asked for a link; or one came, over which this was done, and was hung up
 pub record CallsInPart {L : Type 0}

@@ -20,7 +20,7 @@ use Rattle.ldap_search.specs.Answers.{AnswerPart, AreParts, End, Stray, goes_on,
 use Rattle.ldap_search.specs.Copies.{TakenMessage, TakesAll, stored_count, stored_text, taken_texts, values_of}
 use Rattle.ldap_search.specs.Printing.{PrintsLast}
 use Rattle.ldap_search.specs.Requests.{unbind_request}
-use Rattle.ldap_search.specs.Talks.{EndsAnswer, EndsFollowing, FaultsEnd, HasReadAtLeast, OutputState, StopsAfter, asked_octets, begun}
+use Rattle.ldap_search.specs.Talks.{AreFaultless, EndsAnswer, EndsFollowing, FaultsEnd, HasReadAtLeast, OutputState, StopsAfter, asked_octets, begun}
 use Rattle.ldap_search.specs.declared.end.SearchEnd.{SearchEnd}
 use Rattle.ldap_search.specs.declared.end.SearchEnd.TheVariants.{Done, OutputFault, NetFault, PeerFault}
 
@@ -76,6 +76,7 @@ StopsPrinting client output client' output' =
     → IsPrinted first start messages client output
     → HasReadAtLeast first client'.link messages
     × Appends start.held output'.held (texts_of messages)
+    × AreFaultless first client'.link start output'
 
 -- ---- a copy
 
@@ -188,7 +189,7 @@ abbrev pub StopsStoring : model.Copy → (wanted : ℕ) → ClientState → Outp
 StopsStoring copy wanted client output client' output' =
     ((client' ≡ client) × (output' ≡ output))
     ⊎ ((wanted ≡ 1) × IsUnwritten (message_octets unbind_request) client client'
-    × Appends output.held output'.held (stored_text copy.held))
+    × Appends output.held output'.held (stored_text copy.held) × (output'.faults ≡ output.faults))
 
 -- memory ran out after a message was taken: nothing came of it; or it stored a cookie
 abbrev pub StopsBy : Taken → model.Copy → (wanted : ℕ) → ClientState → OutputState → ClientState
@@ -207,3 +208,4 @@ StopsFollowing wanted client consumer output client' output' =
     → IsFollowed spec count first start messages wanted client consumer output
     → Appends first.held client'.link.held (asked_octets spec false)
     × StopsAfter count first client'.link messages consumer.copy start output'
+    × AreFaultless first client'.link start output'

@@ -71,19 +71,23 @@ abbrev pub HasReadAtLeast : (first now : LinkState) → List MessageValue → Ty
 HasReadAtLeast first now messages =
     (later : List Incoming) × HasRead first now (map Arrived messages ++ later)
 
--- nothing was written, and nothing printed
-abbrev pub IsUnasked : (first now : LinkState) → (old new : OutputState) → Type 0
-IsUnasked first now old new = (now.held ≡ first.held) × (new ≡ old)
-
 -- no call of the link has failed since
 abbrev pub IsLinkSound : (first now : LinkState) → Type 0
 IsLinkSound first now =
     (now.read_faults ≡ first.read_faults) × (now.write_faults ≡ first.write_faults)
 
+-- no call of the link or of the output has failed since
+abbrev pub AreFaultless : (first now : LinkState) → (old new : OutputState) → Type 0
+AreFaultless first now old new = IsLinkSound first now × (new.faults ≡ old.faults)
+
+-- nothing was written, nothing printed, and no call of the link has failed
+abbrev pub IsUnasked : (first now : LinkState) → (old new : OutputState) → Type 0
+IsUnasked first now old new = (now.held ≡ first.held) × IsLinkSound first now × (new ≡ old)
+
 -- a call of the link or of the output fails only where that ends the search
 abbrev pub FaultsEnd : (first now : LinkState) → OutputState → SearchEnd → OutputState → Type 0
-FaultsEnd first now old Done new = IsLinkSound first now × (new.faults ≡ old.faults)
-FaultsEnd first now old PeerFault new = IsLinkSound first now × (new.faults ≡ old.faults)
+FaultsEnd first now old Done new = AreFaultless first now old new
+FaultsEnd first now old PeerFault new = AreFaultless first now old new
 FaultsEnd first now old NetFault new = new.faults ≡ old.faults
 FaultsEnd first now old OutputFault new = IsLinkSound first now
 
@@ -128,12 +132,13 @@ AsksPlainly spec first now old end new =
     × WritingFails first now (message_octets (plain_request spec)))
 
 -- Where memory ran out: entries and references came, and perhaps more, and what they say was
--- printed.
+-- printed, and no call failed.
 pub record AnswersInPart (first now : LinkState) (old new : OutputState) : Type 0 where
   pub messages : List MessageValue
   pub parts : AreParts messages
   pub read : HasReadAtLeast first now messages
   pub printed : Appends old.held new.held (texts_of messages)
+  pub faults : AreFaultless first now old new
 
 -- the search was not asked; or the request was written, and its answer was printed in part
 abbrev pub AsksPlainlyInPart : Search → (first now : LinkState) → (old new : OutputState) → Type 0
@@ -264,7 +269,8 @@ StopsAfter count first now messages copy old new =
     ⊎ StoresLast count first now messages copy old new
 
 -- a copy took messages that came, one after another, and a line was printed for each cookie that it
--- stored, fewer than are wanted; and then memory ran out, before the session was ended
+-- stored, fewer than are wanted; and then memory ran out, before the session was ended and before a
+-- call failed
 pub record FollowsInPart
     (spec : Search) (count : ℕ) (first now : LinkState) (old new : OutputState) : Type 0 where
   pub messages : List TakenMessage
@@ -273,6 +279,7 @@ pub record FollowsInPart
   pub fewer : stored_count messages < count
   pub written : Appends first.held now.held (asked_octets spec false)
   pub stops : StopsAfter count first now messages copy old new
+  pub faults : AreFaultless first now old new
 
 -- the search was not asked; or the request was written, and it was followed in part
 abbrev pub AsksToFollowInPart : Search → (count : ℕ) → (first now : LinkState)

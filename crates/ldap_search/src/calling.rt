@@ -56,6 +56,10 @@ pub(crate) fn call<R: Wait, D: Dial, O: Sink>(
         → O.write_fault_count output.new ≡ O.write_fault_count output.old) }
     ensures net_faultless { IfOk result (λ end. end ≢ SearchEnd.NetFault
         → D.dial_fault_count dial.new ≡ D.dial_fault_count dial.old) }
+    ensures output_sound { OnErr result
+        (O.write_fault_count output.new ≡ O.write_fault_count output.old) }
+    ensures net_sound { OnErr result
+        (D.dial_fault_count dial.new ≡ D.dial_fault_count dial.old) }
     ensures later { D.dial_fault_count dial.old ≤ D.dial_fault_count dial.new }
 {
     match dial.connect(address) {
@@ -89,7 +93,9 @@ fn search_over<R: Wait, D: Dial, O: Sink>(
         D.Link.read_fault_count D.Link.write_fault_count in
         let shown = output_by O.bytes_held O.write_fault_count in
         OnErr result (HungUpInPart state (search_of spec) count (state link)
-        (shown output.old) (shown output.new) (D.dialled dial.old) (D.dialled dial.new)) }
+        (shown output.old) (shown output.new)
+        (D.dialled dial.old) (D.dial_fault_count dial.old)
+        (D.dialled dial.new) (D.dial_fault_count dial.new)) }
     ensures later { D.dial_fault_count dial.old ≤ D.dial_fault_count dial.new }
 {
     match Client::new(alloc, link) {

@@ -18,7 +18,12 @@ ghost use Rattle.ldap_search.specs.Steps.{
   StoresOne,
   Unbinds,
 };
-ghost use Rattle.ldap_search.specs.Talks.{AsksToFollow, AsksToFollowInPart, output_by};
+ghost use Rattle.ldap_search.specs.Talks.{
+  AsksToFollow,
+  AsksToFollowInPart,
+  IsLinkSound,
+  output_by,
+};
 
 use crate::SearchEnd;
 use crate::answering::end_by;
@@ -93,7 +98,8 @@ fn ask<L: Link>(
     ensures unwritten { let state = link_by L.bytes_left L.bytes_read L.bytes_held
         L.read_fault_count L.write_fault_count in
         OnErr result
-        ((client_by state client.new).link.held ≡ (client_by state client.old).link.held) }
+        (((client_by state client.new).link.held ≡ (client_by state client.old).link.held)
+        × IsLinkSound (client_by state client.old).link (client_by state client.new).link) }
 {
     let Ok(request) = consumer.request(SEARCH_ID, Mode::RefreshAndPersist) else {
         return Err(AllocError);

@@ -19,7 +19,9 @@ use sync_io::{Net, NetFault, Sink};
 /// Searches over one link to an address. Without a count the answer is printed: each entry as LDIF,
 /// as it came, and last `result CODE`. With a count the search is followed: a line is printed for
 /// each cookie that is stored, `stored entries E sha256 H`, and the session is ended after as many
-/// of them; where the peer ends the search before, that is `result CODE`. It may wait.
+/// of them; where the peer ends the search before, that is `result CODE`. It is `NoMemory` where
+/// memory runs out; then what came of the net went back, and no text of what was printed is cut
+/// off. It may wait.
 pub fn search<R: Wait, O: Sink, N: Net>(
     rt: &R,
     alloc: Global,
@@ -49,6 +51,10 @@ pub fn search<R: Wait, O: Sink, N: Net>(
         → O.write_fault_count output.new ≡ O.write_fault_count output.old) }
     ensures net_faultless { IfOk result (λ end. end ≢ SearchEnd.NetFault
         → N.net_fault_count net.new ≡ N.net_fault_count net.old) }
+    ensures output_sound { OnErr result
+        (O.write_fault_count output.new ≡ O.write_fault_count output.old) }
+    ensures net_sound { OnErr result
+        (N.net_fault_count net.new ≡ N.net_fault_count net.old) }
     ensures later { N.net_fault_count net.old ≤ N.net_fault_count net.new }
 {
     match net.caller() {

@@ -1,5 +1,5 @@
 -- How the round of a replica ends.
-use Rattle.std.proofs.Common.{◌≡◌, ◌≤◌, ℕ, List, [], ◌∷◌, ◌++◌, map, Option, Some, None, Result, Err, Ok, inl, inr, refl, sym, ap, subst, ◌∙◌, arith}
+use Rattle.std.proofs.Common.{◌≡◌, ◌≤◌, List, [], ◌∷◌, ◌++◌, map, Option, Some, None, Result, Err, Ok, inl, inr, refl, sym, ap, subst, ◌∙◌, arith}
 use Rattle.std.specs.Io.KnownBytes.{Appends}
 use Rattle.ldap_client.proofs.Given.{all_read, arrived-push, given_asked, given_fault, given_next, given_none, read_ended, read_refused}
 use Rattle.ldap_client.specs.Clients.{Asks, ClientState, GivesNext, HasGiven, HasRead, fresh}
@@ -10,6 +10,7 @@ use Rattle.ldap_filter.specs.FilterTree.{depth}
 use Rattle.ldap_messages.specs.Whole.{HasSpelling, MessageValue, message_octets, message_value}
 use Rattle.ldap_messages.specs.declared.message.Message.{Message}
 use Rattle.ldap_session.specs.Incoming.{Arrived, Incoming, incoming_in}
+use Rattle.sync_io.proofs.Sides.{rose_later}
 use Rattle.sync_io.specs.Faults.{CountHasRisen}
 use Rattle.sync_consumer.specs.Taking as taking
 use Rattle.sync_model.specs.Copy as model
@@ -19,10 +20,6 @@ use Rattle.replica_node.specs.Steps.{ReplicaStep, messages_of}
 use Rattle.replica_node.specs.declared.end.RoundOutcome.{RoundOutcome}
 use Rattle.replica_node.specs.declared.end.RoundOutcome.TheVariants.{LimitReached, NoMemory, Over}
 use Rattle.replica_node.proofs.Stepping.{follows_on}
-
--- a count that rose has risen since earlier
-rose_later : (first before now : ℕ) → first ≤ before → CountHasRisen before now → CountHasRisen first now
-rose_later first before now later rose = omega (arith, later, rose)
 
 same_one : {A : Type 0} (x y : A) → x ∷ [] ≡ y ∷ [] → x ≡ y
 same_one x y is = cc

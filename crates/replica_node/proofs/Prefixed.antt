@@ -6,6 +6,7 @@ use Rattle.std.specs.Prelude.{All, pos}
 use Rattle.std.proofs.lemmas.Bool.{and_parts}
 use Rattle.std.proofs.lemmas.List.{append-nil}
 use Rattle.std.proofs.lemmas.List.Elements.{All-from_recursion, recursion_from_All}
+use Rattle.std.proofs.lemmas.Option.{same_Some}
 use Rattle.directory_writes.proofs.Writes.{ascends_now}
 use Rattle.directory_writes.specs.Directory.{DirectoryState, entries_after, entries_of}
 use Rattle.entry_tree.specs.Effects.{committed}
@@ -102,10 +103,12 @@ goes_own n (Over code) old new goes own = absurd goes
 goes_own n (Fault found) old new goes own = absurd goes
 goes_own n NoMemory old new goes own = absurd goes
 
+-- where no entry of the journal is another port's after some steps, none was before them
 pub steps_own : (n : ℕ) (steps : List ReplicaStep) (copy copy' : Copy) (port port' : PortState) → TakesAll copy port steps copy' port' → AllOwn n port'.journal → AllOwn n port.journal
 steps_own n [] copy copy' port port' takes own = subst (λ (p : PortState). AllOwn n p.journal) takes.1 own
 steps_own n (step ∷ steps) copy copy' port port' takes own = goes_own n step.taken port step.port takes.0.goes (steps_own n steps step.copy copy' step.port port' takes.1 own)
 
+-- nor before the end of a round
 pub ends_own : (n : ℕ) (end : RoundEnd) (copy copy' : Copy) (port port' : PortState) → EndsBy end copy port copy' port' → AllOwn n port'.journal → AllOwn n port.journal
 ends_own n ReadToEnd copy copy' port port' ends own = subst (λ (p : PortState). AllOwn n p.journal) ends.1 own
 ends_own n (Refused place) copy copy' port port' ends own = subst (λ (p : PortState). AllOwn n p.journal) ends.1 own
@@ -158,6 +161,7 @@ module _ {L : Type 0} where
 
   -- ---- rounds, one after another
 
+  -- nor before some rounds, where none is after them
   pub does_own : (n : ℕ) (wanted : Wanted) (done : List (ReplicaRound L)) (copy copy' : Copy) (port port' : PortState) → DoesAll wanted copy port done copy' port' → AllOwn n port'.journal → AllOwn n port.journal
   does_own n wanted [] copy copy' port port' does own = subst (λ (p : PortState). AllOwn n p.journal) does.1 own
   does_own n wanted (Unlinked ∷ done) copy copy' port port' does own =
@@ -266,12 +270,9 @@ module _ (operation : SyncOperation) (dir : IsDirectory operation) (n : ℕ) whe
         known_same begun copy (ap (λ (c : Copy). c.held) at.copy_is ∙ same.held) (ap (λ (c : Copy). c.cookie) at.copy_is ∙ same.cookie) known)
         (λ shows number named.
         let both : Some (operation.cookies shows.number) ≡ Some (operation.cookies number) = sym shows.cookie ∙ sym (ap (λ (c : Copy). c.cookie) at.copy_is) ∙ named in
-        let one : shows.number ≡ number = dir.cookies shows.number number (some_same (operation.cookies shows.number) (operation.cookies number) both) in
+        let one : shows.number ≡ number = dir.cookies shows.number number (same_Some (operation.cookies shows.number) (operation.cookies number) both) in
         ap (λ (c : Copy). c.held) at.copy_is ∙ shows.held ∙ ap (content_after operation) one)
         (fronts syncs rest is)
-      where
-        some_same : (xs ys : List ℕ) → Some xs ≡ Some ys → xs ≡ ys
-        some_same xs ys both = cc
 
   -- ---- the end of a round
 

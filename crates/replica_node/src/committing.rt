@@ -8,12 +8,12 @@ use crate::end::RoundOutcome;
 use crate::reporting::{report_end, report_fault};
 use ldap_messages::Message;
 use sync_consumer::{Commit, Consumer, Taken};
-use sync_io::Clock;
+use sync_io::{Clock, Dial};
 use sync_provider::{CommitFault, Port};
 
 /// Takes a message, and commits the stage that took effect with it. None where the round goes on.
-pub(crate) fn take<R: Eprint, P: Port, C: Clock>(
-    rt: &R,
+pub(crate) fn take<P: Port, C: Clock, D: Dial>(
+    dial: &D,
     port: &mut P,
     consumer: &mut Consumer,
     clock: &mut C,
@@ -33,11 +33,11 @@ pub(crate) fn take<R: Eprint, P: Port, C: Clock>(
         Taken::Stored(commit) => commit_stage(port, clock, commit, stored),
         Taken::Copied(commit) => commit_stage(port, clock, commit, stored),
         Taken::Over(code) => {
-            report_end(rt, code);
+            report_end(dial, code);
             Some(RoundOutcome::Over)
         }
         Taken::Fault(fault) => {
-            report_fault(rt, fault);
+            report_fault(dial, fault);
             Some(RoundOutcome::Over)
         }
         Taken::NoMemory => Some(RoundOutcome::NoMemory),

@@ -16,7 +16,7 @@ use ldap_client::{Client, ClientFault};
 use ldap_messages::Message;
 use std::sync::Wait;
 use sync_consumer::Consumer;
-use sync_io::{Clock, Link};
+use sync_io::{Clock, Dial, Link};
 use sync_messages::Mode;
 use sync_provider::Port;
 
@@ -25,8 +25,9 @@ const SEARCH_ID: u32 = 1;
 
 /// Asks for a search over a link, and follows it to the end of the round. What is staged then is
 /// dropped.
-pub(crate) fn follow<R: Wait + Eprint, P: Port, L: Link, C: Clock>(
+pub(crate) fn follow<R: Wait, P: Port, L: Link, C: Clock, D: Dial>(
     rt: &R,
+    dial: &D,
     port: &mut P,
     client: &mut Client<L>,
     consumer: &mut Consumer,
@@ -51,14 +52,15 @@ pub(crate) fn follow<R: Wait + Eprint, P: Port, L: Link, C: Clock>(
     ensures counted { IsCounted (P.state port.new) stored.new }
     ensures wanted { wanted_by consumer.new ≡ wanted_by consumer.old }
 {
-    let outcome = follow_to_end(rt, port, client, consumer, clock, stored);
+    let outcome = follow_to_end(rt, dial, port, client, consumer, clock, stored);
     consumer.cut();
     outcome
 }
 
 /// Asks for a search, and takes its messages to the end of the round.
-fn follow_to_end<R: Wait + Eprint, P: Port, L: Link, C: Clock>(
+fn follow_to_end<R: Wait, P: Port, L: Link, C: Clock, D: Dial>(
     rt: &R,
+    dial: &D,
     port: &mut P,
     client: &mut Client<L>,
     consumer: &mut Consumer,
@@ -84,7 +86,7 @@ fn follow_to_end<R: Wait + Eprint, P: Port, L: Link, C: Clock>(
     ensures wanted { wanted_by consumer.new ≡ wanted_by consumer.old }
 {
     match ask(client, consumer) {
-        None => take_all(rt, port, client, consumer, clock, stored),
+        None => take_all(rt, dial, port, client, consumer, clock, stored),
         Some(outcome) => outcome,
     }
 }
@@ -127,8 +129,9 @@ fn send<L: Link>(client: &mut Client<L>, message: Message) -> Result<(), ClientF
 }
 
 /// Takes the messages of the search to the end of the round.
-fn take_all<R: Wait + Eprint, P: Port, L: Link, C: Clock>(
+fn take_all<R: Wait, P: Port, L: Link, C: Clock, D: Dial>(
     rt: &R,
+    dial: &D,
     port: &mut P,
     client: &mut Client<L>,
     consumer: &mut Consumer,
@@ -150,7 +153,7 @@ fn take_all<R: Wait + Eprint, P: Port, L: Link, C: Clock>(
     ensures wanted { wanted_by consumer.new ≡ wanted_by consumer.old }
 {
     for _ in rt.forever() {
-        match take_next(rt, port, client, consumer, clock, stored) {
+        match take_next(rt, dial, port, client, consumer, clock, stored) {
             None => {}
             Some(outcome) => return outcome,
         }
@@ -159,8 +162,9 @@ fn take_all<R: Wait + Eprint, P: Port, L: Link, C: Clock>(
 }
 
 /// Takes the next message. None where the round goes on.
-fn take_next<R: Wait + Eprint, P: Port, L: Link, C: Clock>(
+fn take_next<R: Wait, P: Port, L: Link, C: Clock, D: Dial>(
     rt: &R,
+    dial: &D,
     port: &mut P,
     client: &mut Client<L>,
     consumer: &mut Consumer,
@@ -186,12 +190,12 @@ fn take_next<R: Wait + Eprint, P: Port, L: Link, C: Clock>(
 {
     match client.next(rt) {
         Ok(message) => {
-            let outcome = take(rt, port, consumer, clock, &message, stored);
+            let outcome = take(dial, port, consumer, clock, &message, stored);
             discard(message);
             outcome
         }
         Err(fault) => {
-            report_client_fault(rt, fault);
+            report_client_fault(dial, fault);
             Some(outcome_by(fault))
         }
     }

@@ -25,7 +25,7 @@ use sync_provider::Port;
 /// tried; 0 stands for no end. A commit that would pass a limit of the directory ends it before,
 /// and so does memory that runs out; each commit is made whole or not at all. After
 /// e-syncRefreshRequired the cookie is lost (RFC 4533, section 2.6). It may wait.
-pub fn run_replica<R: Wait + Eprint, P: Port, D: Dial, C: Clock>(
+pub fn run_replica<R: Wait, P: Port, D: Dial, C: Clock>(
     rt: &R,
     alloc: Global,
     port: &mut P,
@@ -64,7 +64,7 @@ pub fn run_replica<R: Wait + Eprint, P: Port, D: Dial, C: Clock>(
 }
 
 /// Tries one connection after another.
-fn run_rounds<R: Wait + Eprint, P: Port, D: Dial, C: Clock>(
+fn run_rounds<R: Wait, P: Port, D: Dial, C: Clock>(
     rt: &R,
     alloc: Global,
     port: &mut P,

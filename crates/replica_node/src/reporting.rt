@@ -1,36 +1,40 @@
-//! Why a round ended, on standard error. A line that can't be written is passed over, and none of
-//! them is in a contract.
+//! Why a round ended, as the dialler of its link says it to an operator.
 
 use ldap_client::ClientFault;
 use sync_consumer::PeerFault;
+use sync_io::{Dial, FaultDetail};
 
 /// The upstream ended the search.
-pub(crate) fn report_end<R: Eprint>(rt: &R, code: i64) {
-    let _ = eprintln!(rt; "syncrepl: upstream: the search ended with {code}");
+pub(crate) fn report_end<D: Dial>(dial: &D, code: i64) {
+    dial.report("SearchEnded", FaultDetail::Code(code));
 }
 
 /// What the upstream sent is refused. Nothing of the round is kept that was not committed.
-pub(crate) fn report_fault<R: Eprint>(rt: &R, fault: PeerFault) {
-    let _ = match fault {
+pub(crate) fn report_fault<D: Dial>(dial: &D, fault: PeerFault) {
+    match fault {
         PeerFault::PresentUnknown(uuid) => {
-            eprintln!(rt; "syncrepl: upstream: PresentUnknown {uuid:032x}")
+            dial.report("PresentUnknown", FaultDetail::Entry(uuid));
         }
         PeerFault::UuidDiffers(uuid, other) => {
-            eprintln!(rt; "syncrepl: upstream: UuidDiffers {uuid:032x} {other:032x}")
+            dial.report("UuidDiffers", FaultDetail::Entries(uuid, other));
         }
-        PeerFault::OutOfPlace(tag) => { eprintln!(rt; "syncrepl: upstream: OutOfPlace {tag}") }
-        PeerFault::BadValue => eprintln!(rt; "syncrepl: upstream: BadValue"),
-        PeerFault::BadEntry(code) => { eprintln!(rt; "syncrepl: upstream: BadEntry {code}") }
-        PeerFault::StageFull => eprintln!(rt; "syncrepl: upstream: StageFull"),
+        PeerFault::OutOfPlace(tag) => {
+            dial.report("OutOfPlace", FaultDetail::Number(u64::from(tag)));
+        }
+        PeerFault::BadValue => dial.report("BadValue", FaultDetail::Nothing),
+        PeerFault::BadEntry(code) => {
+            dial.report("BadEntry", FaultDetail::Code(i64::from(code)));
+        }
+        PeerFault::StageFull => dial.report("StageFull", FaultDetail::Nothing),
         PeerFault::DuplicateName(one, other) => {
-            eprintln!(rt; "syncrepl: upstream: DuplicateName {one:032x} {other:032x}")
+            dial.report("DuplicateName", FaultDetail::Entries(one, other));
         }
-    };
+    }
 }
 
-/// The link has no more messages. One that was lost needs no line of its own here.
-pub(crate) fn report_client_fault<R: Eprint>(rt: &R, fault: ClientFault) {
+/// The link gives no more messages. One that was lost needs no line of its own here.
+pub(crate) fn report_client_fault<D: Dial>(dial: &D, fault: ClientFault) {
     if let ClientFault::PeerMessage(place) = fault {
-        let _ = eprintln!(rt; "syncrepl: upstream: PeerMessage {place}");
+        dial.report("PeerMessage", FaultDetail::Number(place as u64));
     }
 }

@@ -17,7 +17,7 @@ use sync_io::{Clock, Dial, NetFault};
 use sync_provider::Port;
 
 /// Tries one connection, follows the search over its link, and hangs it up.
-pub(crate) fn run_round<R: Wait + Eprint, P: Port, D: Dial, C: Clock>(
+pub(crate) fn run_round<R: Wait, P: Port, D: Dial, C: Clock>(
     rt: &R,
     alloc: Global,
     port: &mut P,
@@ -47,7 +47,7 @@ pub(crate) fn run_round<R: Wait + Eprint, P: Port, D: Dial, C: Clock>(
 }
 
 /// Follows the search over a link, and hangs it up.
-fn follow_over<R: Wait + Eprint, P: Port, D: Dial, C: Clock>(
+fn follow_over<R: Wait, P: Port, D: Dial, C: Clock>(
     rt: &R,
     alloc: Global,
     port: &mut P,
@@ -73,7 +73,7 @@ fn follow_over<R: Wait + Eprint, P: Port, D: Dial, C: Clock>(
     match Client::new(alloc, link) {
         Ok(client) => {
             let mut client = client;
-            let outcome = follow(rt, port, &mut client, consumer, clock, stored);
+            let outcome = follow(rt, &*dial, port, &mut client, consumer, clock, stored);
             dial.hang_up(client.into_link());
             outcome
         }

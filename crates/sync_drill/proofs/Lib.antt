@@ -11,3 +11,17 @@ pub mod Finished
 pub mod Meetings
 pub mod Schedules
 pub mod JournalLeft
+pub mod Parted
+pub mod SentTaken
+pub mod StreamTaken
+pub mod SearchTaken
+pub mod CopyMade
+pub mod SearchesGo
+pub mod Streams
+pub mod Handings
+pub mod Turns
+pub mod Openings
+pub mod Rings
+pub mod HandingSteps
+pub mod Made
+pub mod TakingSteps

@@ -3,3 +3,6 @@ pub mod Journals
 pub mod Going
 pub mod Drilled
 pub mod Writers
+pub mod Delivered
+pub mod Handing
+pub mod Halves

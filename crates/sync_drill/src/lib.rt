@@ -3,7 +3,10 @@
 #![tactic(auto)]
 
 mod drilling;
+mod events;
+mod handing_out;
 mod meeting;
+mod taking;
 mod threads;
 mod writing;
 

@@ -1,7 +1,7 @@
 //! Links to others, asked for by address.
 ghost use Rattle.std.specs.Prelude.{◌≡◌, ◌+◌, ◌<◌, ◌≤◌, ℕ, Option, IfOk, IfSome, IsErrOf, [], is_ok, option_map, length};
 
-use crate::Link;
+use crate::{FaultDetail, Link};
 
 /// Why no link came.
 #[derive(Clone, Copy, Debug, PartialEq, Eq)]
@@ -65,6 +65,10 @@ pub trait Dial {
         ensures sound { Self.Link.read_fault_count link + Self.Link.write_fault_count link ≡ 0
             → dial_fault_count self.new ≡ dial_fault_count self.old }
         ensures later { dial_fault_count self.old ≤ dial_fault_count self.new };
+
+    /// Says to an operator why a link is about to be hung up: the name of a fault, and what it has
+    /// with it. Nothing follows from it; a dialler that has nobody to say it to keeps silent.
+    fn report(&self, _fault: &str, _detail: FaultDetail) {}
 
     /// No more links are hung up than came.
     ghost within: { (d : Self) → IfSome (dialled d) (λ all. length all.hung_up ≤ all.came) };

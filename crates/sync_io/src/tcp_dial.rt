@@ -5,7 +5,7 @@ ghost use Rattle.sync_io.specs.Faults.{CountHasRisen};
 
 use crate::faults::count_fault;
 use crate::retries::Retries;
-use crate::{Dial, NetFault, Sink, Source, TcpLink};
+use crate::{Dial, FaultDetail, NetFault, Sink, Source, TcpLink};
 use std::io::ErrorKind;
 use std::net::{TcpListener, TcpStream};
 use std::time::Clock;
@@ -27,7 +27,7 @@ pub(crate) fn net_fault(error: io::Error, faults: &mut u64) -> NetFault
 /// A dialler over TCP. An address is that of a host and a port, as `localhost:389`. It reports
 /// nothing of what it was asked. Where it is asked again, it does so at once, and then after 1, 2,
 /// 4 .. 30 seconds, until a link has lasted 30 seconds; it says on standard error when there is no
-/// link, and when there is one again.
+/// link, when there is one again, and what is reported of one.
 pub struct TcpDial<'a, R: net::Net<Listener = TcpListener, Stream = TcpStream> + Eprint + Clock> {
     rt: &'a R,
     retries: Retries,
@@ -86,6 +86,22 @@ impl<'a, R: net::Net<Listener = TcpListener, Stream = TcpStream> + Eprint + Cloc
         if link.read_faults() > 0 || link.write_faults() > 0 {
             count_fault(&mut self.faults);
         }
+    }
+
+    fn report(&self, fault: &str, detail: FaultDetail) {
+        let _ = match detail {
+            FaultDetail::Nothing => eprintln!(self.rt; "syncrepl: upstream: {fault}"),
+            FaultDetail::Code(code) => eprintln!(self.rt; "syncrepl: upstream: {fault} {code}"),
+            FaultDetail::Number(number) => {
+                eprintln!(self.rt; "syncrepl: upstream: {fault} {number}")
+            }
+            FaultDetail::Entry(uuid) => {
+                eprintln!(self.rt; "syncrepl: upstream: {fault} {uuid:032x}")
+            }
+            FaultDetail::Entries(one, other) => {
+                eprintln!(self.rt; "syncrepl: upstream: {fault} {one:032x} {other:032x}")
+            }
+        };
     }
 
     ghost within = { λ _. tt };

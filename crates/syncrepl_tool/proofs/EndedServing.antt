@@ -1,8 +1,8 @@
 -- How serving a directory that is ready ends, with an upstream or without one.
-use Rattle.std.proofs.Common.{◌≡◌, ◌⊎◌, ◌<◌, ◌≤◌, ◌+◌, ℕ, true, List, length, Option, Some, None, Result, Ok, Err, inl, inr, refl, sym, ap, subst, ◌∙◌, arith}
+use Rattle.std.proofs.Common.{◌≡◌, ◌⊎◌, ◌<◌, ◌≤◌, ◌+◌, ℕ, List, length, Option, Some, None, Result, Ok, Err, inl, inr, refl, sym, ap, subst, ◌∙◌, arith}
 use Rattle.std.specs.Prelude.{IfSome, IsErrOf, IsSome, OnErr, OnOk, option_map}
 use Rattle.sync_io.specs.Faults.{CountHasRisen}
-use Rattle.sync_io.specs.Net.{Served, calls, listens}
+use Rattle.sync_io.specs.Net.{Served, listens}
 use Rattle.sync_io.specs.declared.dial.NetFault.{NetFault}
 use Rattle.sync_io.specs.declared.dial.NetFault.TheVariants.{Failed, NoMemory}
 use Rattle.directory_setup.specs.declared.setup.ReadyDirectory.{ReadyDirectory}
@@ -122,12 +122,6 @@ faults_none (Err fault) old new is same = record {
   faultless = λ _. same;
   later = omega (arith, same);
 }
-
--- a caller that was given can be let go
-pub room_to_retire : {L C M : Type 0} (served : Option (Served L C M)) → IfSome served (λ s. length s.retired + length s.gone ≤ s.callers)
-    → IfSome (option_map (calls true) served) (λ s. length s.retired + length s.gone < s.callers)
-room_to_retire None within = tt
-room_to_retire (Some s) within = omega (arith, within)
 
 -- while connections were served no caller came or went
 pub room_after : {L C M : Type 0} (before now : Option (Served L C M)) (n : ℕ) (links : List L) → IsReported before n now links → IfSome before (λ s. length s.retired + length s.gone < s.callers)

@@ -22,11 +22,10 @@ use Rattle.syncrepl_tool.specs.Cascade.{WritesPrefix, WritesReport, WritesWhole,
 -- ---- a flush leaves what was written
 
 -- a prefix of a report is one still where nothing more is written
-pub prefix_kept : {script : ScriptReader} {a b : Option (List ℕ)} → WritesPrefix script a b → (c : Option (List ℕ)) → Keeps b c → WritesPrefix script a c
-prefix_kept {script} {a} {b} f c k = record {
+pub prefix_kept : {script : ScriptReader} {a b : Option (List ℕ)} {end : WorldState} → WritesPrefix script a b end → (c : Option (List ℕ)) → Keeps b c → WritesPrefix script a c end
+prefix_kept {script} {a} {b} {end} f c k = record {
   orders = f.orders;
   report = f.report;
-  end = f.end;
   rest = f.rest;
   run = f.run;
   given = f.given;
@@ -88,13 +87,14 @@ if_some_map None P Q h p = tt
 if_some_map (Some a) P Q h p = h a p
 
 -- so does what was written of its report
-pub prefix_of : {old new : Option (List ℕ)} {text : List ℕ} → IsPrefixOf old new text → (a b : Option (List ℕ)) → WritesPrefix (reader_of text) a b → IfSome old (λ all. WritesPrefix (reader_of all) a b)
-prefix_of {old} {new} {text} prefix a b w = at_prefix old new text prefix (λ script. WritesPrefix script a b) w
+pub prefix_of : {old new : Option (List ℕ)} {text : List ℕ} → IsPrefixOf old new text → (a b : Option (List ℕ)) (end : WorldState) → WritesPrefix (reader_of text) a b end
+    → IfSome old (λ all. WritesPrefix (reader_of all) a b end)
+prefix_of {old} {new} {text} prefix a b end w = at_prefix old new text prefix (λ script. WritesPrefix script a b end) w
 
--- a read fault leaves the output as it was
-pub prefix_of_nothing : (left held : Option (List ℕ)) → IfSome left (λ text. WritesPrefix (reader_of text) held held)
-prefix_of_nothing None held = tt
-prefix_of_nothing (Some text) held = nothing_written (reader_of text) held
+-- a read fault leaves the output as it was, and the world without nodes
+pub prefix_of_nothing : (left held : Option (List ℕ)) (end : WorldState) → end ≡ no_nodes → IfSome left (λ text. WritesPrefix (reader_of text) held held end)
+prefix_of_nothing None held end fresh = tt
+prefix_of_nothing (Some text) held end fresh = nothing_written (reader_of text) held end fresh
 
 -- ---- what is said of the text that was left, by how the run ended
 

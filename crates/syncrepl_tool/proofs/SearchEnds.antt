@@ -192,10 +192,18 @@ module _ {L C M E : Type 0} {seen : M → LinkState} {dialled : C → Option (Di
   runs_out_unasked unasked faultless unprinted = record {
     with_status = tt;
     complete = tt;
-    without_memory = record { stops = inl (unasked, faultless, unprinted) };
+    without_memory = record {
+      output_sound = ap (λ (o : OutputState). o.faults) unprinted;
+      net_sound = faultless;
+      stops = inl (unasked, unprinted);
+    };
   }
 
   -- after base and filter were read
   pub runs_out_asked : (spec : Search) → IsReadAs asked spec → SearchesInPart seen dialled asked.address spec asked.count before.served before.output after.served after.output
-      → EndsSearch seen dialled asked before after (Err none)
-  runs_out_asked spec read searches = record { with_status = tt; complete = tt; without_memory = record { stops = inr (spec, read, searches) } }
+      → after.output.faults ≡ before.output.faults → after.net_faults ≡ before.net_faults → EndsSearch seen dialled asked before after (Err none)
+  runs_out_asked spec read searches output net = record {
+    with_status = tt;
+    complete = tt;
+    without_memory = record { output_sound = output; net_sound = net; stops = inr (spec, read, searches) };
+  }

@@ -62,8 +62,8 @@ may_serve v name before after ready status is came m = record {
     cut (inr (n, served)) = inr (record { ready = ready; is_ready = is; connections = n; serves = served })
 
 runs_out : {L C M : Type 0} (v : NetView L C M) (name : List ℕ) (before after : Outside L C M) (ready : ReadyDirectory)
-    → IsReady before.files name ready → RunsOutReady v ready (side_of before) (side_of after) → RunsOut v name before after
-runs_out v name before after ready is out = record { faultless = out.faultless; stops = by out.stops }
+    → IsReady before.files name ready → AllCame before after → RunsOutReady v ready (side_of before) (side_of after) → RunsOut v name before after
+runs_out v name before after ready is came out = record { all_came = came; faultless = out.faultless; stops = by out.stops }
   where
     by : (after.served ≡ before.served) ⊎ HasListened ready before.served after.served
         ⊎ ((n : ℕ) × IsServedAt v AnyEnd ready n before.served after.served)
@@ -140,19 +140,19 @@ served_ready v name before after ready (Err none) is came ends = record {
   with_status = tt;
   complete = tt;
   refuses = tt;
-  without_memory = runs_out v name before after ready is ends.without_memory;
+  without_memory = runs_out v name before after ready is came ends.without_memory;
 }
 
 -- ---- a directory that is not served
 
 -- memory ran out before the net was asked to listen
 pub runs_out_first : {L C M E : Type 0} (v : NetView L C M) (name : List ℕ) (before after : Outside L C M) (none : E)
-    → after.served ≡ before.served → after.net_faults ≡ before.net_faults → EndsServing v name before after (Err none)
-runs_out_first v name before after none unasked same = record {
+    → AllCame before after → after.served ≡ before.served → after.net_faults ≡ before.net_faults → EndsServing v name before after (Err none)
+runs_out_first v name before after none came unasked same = record {
   with_status = tt;
   complete = tt;
   refuses = tt;
-  without_memory = record { faultless = same; stops = inl unasked };
+  without_memory = record { all_came = came; faultless = same; stops = inl unasked };
 }
 
 status_cases : (refusal : SetupRefusal) → (refusal_status refusal ≡ 3) ⊎ (refusal_status refusal ≡ 8)
@@ -218,7 +218,7 @@ pub refused_setup : {L C M E : Type 0} (v : NetView L C M) (name : List ℕ) (be
     → after.served ≡ before.served → after.net_faults ≡ before.net_faults → EndsServing v name before after answer
 refused_setup v name before after refusal (Ok status) is came says unheard same =
     ends_with v name before after status (may_refuse v name before after refusal status is came says.0 says.1 unheard same)
-refused_setup v name before after refusal (Err none) is came says unheard same = runs_out_first v name before after none unheard same
+refused_setup v name before after refusal (Err none) is came says unheard same = runs_out_first v name before after none came unheard same
 
 -- so it is where a file or a random word could not be read
 pub read_failed : {L C M E : Type 0} (v : NetView L C M) (name : List ℕ) (before after : Outside L C M) (status : Status)

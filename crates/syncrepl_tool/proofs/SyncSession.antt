@@ -3,7 +3,7 @@ use Rattle.std.proofs.Common.{◌≡◌, ◌≢◌, ◌≤◌, ℕ, Option, List
 use Rattle.std.proofs.lemmas.List.{flat_map_more}
 use Rattle.std.proofs.KnownBytes.{Appends-nil, Appends-trans}
 use Rattle.std.specs.Io.KnownBytes.{Appends}
-use Rattle.std.specs.Prelude.{Result, Err}
+use Rattle.std.specs.Prelude.{Result, Ok, Err}
 use Rattle.sync_io.specs.Sink.{AppendsPrefix}
 use Rattle.cascade_script.specs.declared.fault.Cause.{Cause}
 use Rattle.cascade_script.specs.declared.fault.Cause.TheVariants.{NoMemory, BadCommand, UnknownNode, NameTaken, BadRecord, LimitReached, OutsideSuffix, LaterCookie, Circle}
@@ -21,7 +21,7 @@ use Rattle.cascade_laws.proofs.Runs.{runs-more, step_reported}
 use Rattle.cascade_laws.proofs.Traces.{runs_traced}
 use Rattle.syncrepl_tool.specs.declared.run.Outcome.{Outcome}
 use Rattle.syncrepl_tool.specs.declared.run.Outcome.TheVariants as outcome
-use Rattle.syncrepl_tool.specs.Cascade.{WritesPrefix, WritesReport, WritesWhole, WritesUpTo, Ends}
+use Rattle.syncrepl_tool.specs.Cascade.{WritesPrefix, WritesReport, WritesWhole, WritesUpTo, Ends, IsOutputSound}
 
 -- the orders that were read are done and reported
 pub record SoFar (script : ScriptReader) (state : WorldState) (reader : ScriptReader) (old new : Option (List ℕ)) (before now : ℕ) : Type 0 where
@@ -29,11 +29,11 @@ pub record SoFar (script : ScriptReader) (state : WorldState) (reader : ScriptRe
   pub report : List (List ReportLine)
   pub run : Runs no_nodes script orders report state reader
   pub written : Appends old new (report_text report)
-  pub later : before ≤ now
+  pub sound : now ≡ before
 
 -- at first no event is done, and nothing is written
 pub start : (state : WorldState) (reader : ScriptReader) (held : Option (List ℕ)) (n : ℕ) → state ≡ no_nodes → SoFar reader state reader held held n n
-start state reader held n fresh = record { orders = []; report = []; run = (sym fresh, refl); written = Appends-nil held; later = omega arith }
+start state reader held n fresh = record { orders = []; report = []; run = (sym fresh, refl); written = Appends-nil held; sound = refl }
 
 report_text-push : (report : List (List ReportLine)) (reported : List ReportLine) → report_text report ++ lines_text reported ≡ report_text (report ++ reported ∷ [])
 report_text-push report reported = flat_map_more lines_text [] report reported
@@ -41,15 +41,15 @@ report_text-push report reported = flat_map_more lines_text [] report reported
 -- one event more is done, and its lines are written
 pub go_on : {script reader : ScriptReader} {state : WorldState} {old new : Option (List ℕ)} {before now : ℕ} → SoFar script state reader old new before now
     → (line : ℕ) (order : Order) (after : ScriptReader) (next : WorldState) (text : List ℕ) (held : Option (List ℕ)) (count : ℕ)
-    → next_in reader ≡ Got line order after → IsStep (step state order) next text → Appends new held text → now ≤ count → SoFar script next after old held before count
-go_on {script} {reader} {state} {old} {new} s line order after next text held count reads steps appended later =
+    → next_in reader ≡ Got line order after → IsStep (step state order) next text → Appends new held text → count ≡ now → SoFar script next after old held before count
+go_on {script} {reader} {state} {old} {new} s line order after next text held count reads steps appended same =
     let reported = step_reported (step state order) next text steps in
     record {
       orders = s.orders ++ order ∷ [];
       report = s.report ++ reported.0 ∷ [];
       run = runs-more no_nodes script s.orders s.report state reader s.run line order reported.0 next after reads reported.1;
       written = subst (λ t. Appends old held t) (ap (λ t. report_text s.report ++ t) reported.2 ∙ report_text-push s.report reported.0) (Appends-trans old new held (report_text s.report) text s.written appended);
-      later = omega (arith, s.later);
+      sound = same ∙ s.sound;
     }
 
 -- what was written is the report of the events so far
@@ -66,11 +66,10 @@ written_report {script} {reader} {state} s = record {
 }
 
 -- which begins the report of the whole script
-pub prefix_so_far : {script reader : ScriptReader} {state : WorldState} {old new : Option (List ℕ)} {before now : ℕ} → SoFar script state reader old new before now → WritesPrefix script old new
+pub prefix_so_far : {script reader : ScriptReader} {state : WorldState} {old new : Option (List ℕ)} {before now : ℕ} → SoFar script state reader old new before now → WritesPrefix script old new state
 prefix_so_far {script} {reader} {state} s = record {
   orders = s.orders;
   report = s.report;
-  end = state;
   rest = reader;
   run = s.run;
   given = runs_reported script s.orders s.report state reader s.run;
@@ -84,7 +83,7 @@ prefix_so_far {script} {reader} {state} s = record {
 -- a prefix of the lines of one more order
 pub prefix_of_next : {script reader : ScriptReader} {state : WorldState} {old new : Option (List ℕ)} {before now : ℕ} → SoFar script state reader old new before now
     → (line : ℕ) (order : Order) (more : ScriptReader) (next : WorldState) (text : List ℕ) (held : Option (List ℕ))
-    → next_in reader ≡ Got line order more → IsStep (step state order) next text → AppendsPrefix new held text → WritesPrefix script old held
+    → next_in reader ≡ Got line order more → IsStep (step state order) next text → AppendsPrefix new held text → WritesPrefix script old held next
 prefix_of_next {script} {reader} {state} {old} {new} s line order more next text held reads steps prefix =
     let reported = step_reported (step state order) next text steps in
     let run = runs-more no_nodes script s.orders s.report state reader s.run line order reported.0 next more reads reported.1 in
@@ -92,7 +91,6 @@ prefix_of_next {script} {reader} {state} {old} {new} s line order more next text
     record {
       orders = s.orders ++ order ∷ [];
       report = s.report ++ reported.0 ∷ [];
-      end = next;
       rest = more;
       run = run;
       given = runs_reported script (s.orders ++ order ∷ []) (s.report ++ reported.0 ∷ []) next more run;
@@ -147,10 +145,17 @@ refused_step {script} {reader} {state} {old} {new} s line at order more cause re
     subst (λ l. WritesUpTo script old new state l cause) (sym is.1) (record { rest = reader; report = written_report s; refusal = inr (order, more, reads, is.0) })
 
 -- nothing was written
-pub nothing_written : (script : ScriptReader) (held : Option (List ℕ)) → WritesPrefix script held held
-nothing_written script held = prefix_so_far (start no_nodes script held 0 refl)
+pub nothing_written : (script : ScriptReader) (held : Option (List ℕ)) (end : WorldState) → end ≡ no_nodes → WritesPrefix script held held end
+nothing_written script held end fresh = prefix_so_far (start end script held 0 fresh)
 
 -- how the run ends with a refusal
 pub ends_refused : {script : ScriptReader} {old new : Option (List ℕ)} {state : WorldState} (b n : ℕ) (fault : ScriptFault) (o : Outcome) → WritesUpTo script old new state fault.line fault.cause → o ≡ outcome.Refused fault → Ends script old new state b n o
 ends_refused {script} {old} {new} {state} b n fault o reported is =
     let P : Outcome → Type 0 = Ends script old new state b n in subst P (sym is) reported
+
+-- no write failed, however that was answered
+pub sound_anyway : {E : Type 0} (result : Result Outcome E) (before now : ℕ) → now ≡ before → IsOutputSound result before now
+sound_anyway (Ok outcome.Done) before now same = same
+sound_anyway (Ok (outcome.Refused fault)) before now same = same
+sound_anyway (Ok outcome.WriteFault) before now same = tt
+sound_anyway (Err memory) before now same = same

@@ -1,9 +1,9 @@
 -- What `cascade` reads, does and writes.
-use Rattle.std.specs.Prelude.{◌≡◌, ◌⊎◌, ℕ, ◌≤◌, Option, IfSome, List, [], ◌∷◌, ◌++◌, length, codes}
+use Rattle.std.specs.Prelude.{◌≡◌, ◌≢◌, ◌⊎◌, ℕ, ◌≤◌, Option, IfSome, List, [], ◌∷◌, ◌++◌, length, codes, Result, Ok, Err}
 use Rattle.std.specs.declared.string.String.{String}
 use Rattle.std.specs.declared.alloc.Global.{Global}
 use Rattle.std.specs.String.{string_bytes}
-use Rattle.std.specs.Io.KnownBytes.{Appends, Keeps, IsAtEnd}
+use Rattle.std.specs.Io.KnownBytes.{Appends, Consumes, Keeps, IsAtEnd}
 use Rattle.sync_io.specs.Faults.{CountHasRisen}
 use Rattle.sync_io.specs.Sink.{AppendsPrefix}
 use Rattle.cascade_script.specs.declared.fault.Cause.{Cause}
@@ -40,11 +40,12 @@ EndsInLast report text =
 -- The headline: of the report of the first orders of the script a prefix was written, which may end
 -- in the midst of the last order's lines. Each order has the lines that belong to it, and each of
 -- these is right. The wire is used: these lines report all that happened to the links and the
--- copies of the consumers. And what they report last of each consumer is what it holds.
-pub record WritesPrefix (script : ScriptReader) (old new : Option (List ℕ)) : Type 0 where
+-- copies of the consumers. And what they report last of each consumer is what it holds. The state
+-- is that which these orders leave.
+pub record WritesPrefix
+    (script : ScriptReader) (old new : Option (List ℕ)) (end : WorldState) : Type 0 where
   pub orders : List Order
   pub report : List (List ReportLine)
-  pub end : WorldState
   pub rest : ScriptReader
   pub run : Runs no_nodes script orders report end rest
   pub given : AreReportsOf orders report
@@ -129,9 +130,21 @@ pub record IsPrefixOf (old new : Option (List ℕ)) (text : List ℕ) : Type 0 w
       (λ all. (rest : List ℕ) × (all ≡ text ++ rest) × (length text ≤ most_bytes → rest ≡ []))
   pub end : length text ≤ most_bytes → IsAtEnd new
 
+-- a text was read, and no read failed; or one did
 abbrev pub IsInput : Option (List ℕ) → Option (List ℕ) → ℕ → ℕ → Input → Type 0
-IsInput old new before now (Text text) = IsPrefixOf old new text
+IsInput old new before now (Text text) = IsPrefixOf old new text × (now ≡ before)
 IsInput old new before now Failed = CountHasRisen before now
+
+-- of the bytes that were left none were taken but the first
+abbrev pub IsTakenFrom : (old new : Option (List ℕ)) → Type 0
+IsTakenFrom old new = (bytes : List ℕ) × Consumes old new bytes
+
+-- no write failed, unless that is how the orders of a script ended
+abbrev pub IsOutputSound : {E : Type 0} → Result Outcome E → (before now : ℕ) → Type 0
+IsOutputSound (Ok Done) before now = now ≡ before
+IsOutputSound (Ok (Refused fault)) before now = now ≡ before
+IsOutputSound (Ok WriteFault) before now = Unit {0}
+IsOutputSound (Err memory) before now = now ≡ before
 
 -- a fact that a status of this code brings
 abbrev pub OnCode : ℕ → Type 0 → Status → Type 0
@@ -215,11 +228,13 @@ pub record MayEndWith (before after : Streams) (end : WorldState) (status : Stat
   pub no_script :
       IsRefusedStatus status.code → IfSome before.left (λ text. IsScript text → ⊥)
   pub read_fault : OnCode 4 (CountHasRisen before.read_faults after.read_faults) status
+  pub read_sound : status.code ≢ 4 → after.read_faults ≡ before.read_faults
   pub read_fault_reported :
       OnCode 4
       (Says read_fault_text before.said after.said before.said_faults after.said_faults) status
   pub unread : OnCode 4 ((after.report ≡ before.report) × (end ≡ no_nodes)) status
   pub write_fault : OnCode 5 (CountHasRisen before.report_faults after.report_faults) status
+  pub output_sound : status.code ≢ 5 → after.report_faults ≡ before.report_faults
   pub write_fault_reported :
       OnCode 5
       (Says write_fault_text before.said after.said before.said_faults after.said_faults) status

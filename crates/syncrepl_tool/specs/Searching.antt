@@ -195,14 +195,15 @@ pub record DecidesSearch {L C M : Type 0}
       → (status.code ≡ 0)
       ⊎ ((status.code ≡ 9) × IsAsked seen dialled asked before after PeerFault)
 
--- memory ran out before anything was asked or printed; or base and filter were read, and the search
--- was asked and its answer printed in part
+-- memory ran out, and neither the output nor the net counted a fault: before anything was asked or
+-- printed; or base and filter were read, and the search was asked and its answer printed in part
 pub record RunsOutSearch {L C M : Type 0}
     (seen : M → LinkState) (dialled : C → Option (Dialled M))
     (asked : SearchAsked) (before after : SearchSide L C M) : Type 0 where
+  pub output_sound : after.output.faults ≡ before.output.faults
+  pub net_sound : after.net_faults ≡ before.net_faults
   pub stops :
-      ((after.served ≡ before.served) × (after.net_faults ≡ before.net_faults)
-      × (after.output ≡ before.output))
+      ((after.served ≡ before.served) × (after.output ≡ before.output))
       ⊎ ((spec : Search) × IsReadAs asked spec
       × SearchesInPart seen dialled asked.address spec asked.count
       before.served before.output after.served after.output)

@@ -143,10 +143,11 @@ abbrev pub FailsAtNet : {L C M : Type 0} → NetView L C M → List ℕ → Outs
     → Type 0
 FailsAtNet v name before after = IsUnheard name before after ⊎ IsCutShort v name before after
 
--- Memory ran out, and the net counted no fault: it was not asked to listen; or no connection was
--- accepted; or those that were accepted were served, and no other was.
+-- Memory ran out, and neither the net nor what was read counted a fault: the net was not asked to
+-- listen; or no connection was accepted; or those that were accepted were served, and no other was.
 pub record RunsOut {L C M : Type 0}
     (v : NetView L C M) (name : List ℕ) (before after : Outside L C M) : Type 0 where
+  pub all_came : AllCame before after
   pub faultless : after.net_faults ≡ before.net_faults
   pub stops :
       (after.served ≡ before.served) ⊎ IsUnheard name before after ⊎ IsCutShort v name before after

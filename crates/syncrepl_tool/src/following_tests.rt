@@ -360,7 +360,7 @@ fn a_replica_serves_what_it_follows(rt: HostRuntime) -> Result<(), Fail> {
         &mut errors,
         &mut shelf_of(alloc)?,
         &mut net,
-        FixedClock { micros: 0 },
+        &mut FixedClock { micros: 0 },
         &mut words_of(alloc)?,
         &OpenGate,
     )?;

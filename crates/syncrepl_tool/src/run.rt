@@ -7,7 +7,7 @@ ghost use Rattle.std.specs.String.{string_bytes};
 ghost use Rattle.cascade_script.specs.declared.fault.Cause.TheVariants.{NoMemory};
 ghost use Rattle.syncrepl_tool.specs.Serving.{net_view};
 ghost use Rattle.syncrepl_tool.specs.Texts.{Says, usage_text, read_fault_text, write_fault_text, refusal_text, cause_text, limit_text, later_cookie_text};
-ghost use Rattle.syncrepl_tool.specs.Cascade.{WritesPrefix, status_of, Ends, RunEnds, IsInput, OnCode, Decides, IsCascade, IsForm, IsStatus, IsCascadeStatus, streams, MayEndWith};
+ghost use Rattle.syncrepl_tool.specs.Cascade.{WritesPrefix, status_of, Ends, RunEnds, IsInput, IsOutputSound, IsTakenFrom, OnCode, Decides, IsCascade, IsForm, IsStatus, IsCascadeStatus, streams, MayEndWith};
 ghost use Rattle.ldap_listener.specs.Sessions.{seen_by};
 ghost use Rattle.syncrepl_tool.specs.Serve.{EndsServing, IsServe, outside};
 ghost use Rattle.syncrepl_tool.specs.Searching.{EndsSearch, IsNoSearch, IsSearch, SearchAsked, search_side};
@@ -38,13 +38,13 @@ pub struct Status {
 /// Does what the words say. They leave out the program's name. It is `NoMemory` where memory runs
 /// out, but never for words of no form.
 pub fn run<
-    R: Threads + Wait + Eprint + Sync,
+    R: Threads + Wait + Sync,
     I: Source,
     O: Sink,
     E: Sink,
     F: Shelf,
     N: Net,
-    K: Clock + Sync,
+    K: Clock,
     W: Words,
 >(
     rt: &R,
@@ -67,9 +67,10 @@ pub fn run<
     // from it, and no more. It is what the consumer holds, and a `show` prints, up to its next
     // line. A search is refused with e-syncRefreshRequired exactly where the consumer's cookie is
     // in its way. Each consumer is what the lines of its messages make of it. Each event gives the
-    // lines that belong to it, and no others.
+    // lines that belong to it, and no others. The world is left as these events leave it.
     ensures headline { IsNoSearch words.now → IfSome (I.bytes_left input.old) (λ text.
-        WritesPrefix (reader_of text) (O.bytes_held output.old) (O.bytes_held output.new)) }
+        WritesPrefix (reader_of text) (O.bytes_held output.old) (O.bytes_held output.new)
+        world.new) }
 
     ensures answer { IsCascade words.now → IfOk result (MayEndWith
         (streams (I.bytes_left input.old) (I.read_fault_count input.old)
@@ -130,8 +131,14 @@ pub fn run<
         × (world.new ≡ world.old) × (input.new ≡ input.old) × (output.new ≡ output.old)
         × (shelf.new ≡ shelf.old) × (net.new ≡ net.old) × (random.new ≡ random.old) }
 
-    // Where there is no memory nothing was said.
+    // Where there is no memory nothing was said, and neither the input nor the output failed.
     ensures unsaid { OnErr result (errors.new ≡ errors.old) }
+    ensures sound { OnErr result
+        ((I.read_fault_count input.new ≡ I.read_fault_count input.old)
+        × (O.write_fault_count output.new ≡ O.write_fault_count output.old)) }
+    // The input is read from its front, and files are only read.
+    ensures taken { IsTakenFrom (I.bytes_left input.old) (I.bytes_left input.new) }
+    ensures files { F.files shelf.new ≡ F.files shelf.old }
 
     // Each form of the words has its statuses.
     ensures codes { IfOk result (λ status. IsStatus words.now status.code) }
@@ -146,7 +153,7 @@ pub fn run<
     }
     if let Some(name) = served_file(words) {
         return serve_with(
-            rt, alloc, name, errors, shelf, net, *clock, random, &OpenGate,
+            rt, alloc, name, errors, shelf, net, clock, random, &OpenGate,
         );
     }
     match search_words(words) {
@@ -220,7 +227,8 @@ pub fn run_cascade<I: Source, O: Sink, E: Sink>(
 
     // The report is right, as `run` says in words.
     ensures headline { IfSome (I.bytes_left input.old) (λ text.
-        WritesPrefix (reader_of text) (O.bytes_held output.old) (O.bytes_held output.new)) }
+        WritesPrefix (reader_of text) (O.bytes_held output.old) (O.bytes_held output.new)
+        world.new) }
 
     ensures answer { IfOk result (MayEndWith
         (streams (I.bytes_left input.old) (I.read_fault_count input.old)
@@ -231,8 +239,13 @@ pub fn run_cascade<I: Source, O: Sink, E: Sink>(
         (E.bytes_held errors.new) (E.write_fault_count errors.new))
         world.new) }
 
-    // Where there is no memory nothing was said.
+    // Where there is no memory nothing was said, and neither the input nor the output failed.
     ensures unsaid { OnErr result (errors.new ≡ errors.old) }
+    ensures sound { OnErr result
+        ((I.read_fault_count input.new ≡ I.read_fault_count input.old)
+        × (O.write_fault_count output.new ≡ O.write_fault_count output.old)) }
+    // The input is read from its front.
+    ensures taken { IsTakenFrom (I.bytes_left input.old) (I.bytes_left input.new) }
 
     ensures codes { IfOk result (λ status. IsCascadeStatus status.code) }
     // Where nothing failed, a script without a refusal is done, and every other text is refused.
@@ -365,8 +378,11 @@ pub enum Input {
 
 fn read_text<I: Source>(alloc: Global, input: &mut I) -> Result<Input, NoMemory>
     requires { I.waits input.old ≡ false }
-    ensures { IfOk result (IsInput (I.bytes_left input.old) (I.bytes_left input.new)
+    ensures input { IfOk result (IsInput (I.bytes_left input.old) (I.bytes_left input.new)
         (I.read_fault_count input.old) (I.read_fault_count input.new)) }
+    ensures sound { OnErr result
+        (I.read_fault_count input.new ≡ I.read_fault_count input.old) }
+    ensures taken { IsTakenFrom (I.bytes_left input.old) (I.bytes_left input.new) }
 {
     let mut text = Vec::new(alloc);
     let mut buffer = [0u8; 4096];
@@ -391,12 +407,16 @@ fn run_text<O: Sink, E: Sink>(
 ) -> Result<Status, NoMemory>
     requires fresh { world.old ≡ no_nodes }
     ensures prefix { WritesPrefix (reader_of text) (O.bytes_held output.old)
-        (O.bytes_held output.new) }
+        (O.bytes_held output.new) world.new }
     ensures ends { IfOk result (λ status. RunEnds (reader_of text)
         (O.bytes_held output.old) (O.bytes_held output.new) world.new
         (O.write_fault_count output.old) (O.write_fault_count output.new)
         (E.bytes_held errors.old) (E.bytes_held errors.new)
         (E.write_fault_count errors.old) (E.write_fault_count errors.new) status.code) }
+    ensures output_sound { IfOk result (λ status. status.code ≢ 5
+        → O.write_fault_count output.new ≡ O.write_fault_count output.old) }
+    ensures sound { OnErr result
+        (O.write_fault_count output.new ≡ O.write_fault_count output.old) }
     ensures unsaid { OnErr result (errors.new ≡ errors.old) }
 {
     let mut script = Script::new(text);
@@ -428,10 +448,13 @@ fn run_events<O: Sink>(
     output: &mut O,
 ) -> Result<Outcome, NoMemory>
     requires fresh { world.old ≡ no_nodes }
-    ensures prefix { WritesPrefix script.old (O.bytes_held output.old) (O.bytes_held output.new) }
+    ensures prefix { WritesPrefix script.old (O.bytes_held output.old) (O.bytes_held output.new)
+        world.new }
     ensures ends { IfOk result (Ends script.old
         (O.bytes_held output.old) (O.bytes_held output.new) world.new
         (O.write_fault_count output.old) (O.write_fault_count output.new)) }
+    ensures sound { IsOutputSound result
+        (O.write_fault_count output.old) (O.write_fault_count output.new) }
     ensures later { O.write_fault_count output.old ≤ O.write_fault_count output.new }
 {
     loop {

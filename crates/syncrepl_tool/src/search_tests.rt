@@ -166,7 +166,7 @@ struct Ran {
 }
 
 /// Runs these words over this net.
-fn searched<R: Threads + Wait + Eprint + Sync>(
+fn searched<R: Threads + Wait + Sync>(
     rt: &R,
     alloc: Global,
     words: &[&str],

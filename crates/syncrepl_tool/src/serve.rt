@@ -31,11 +31,11 @@ use sync_io::{Clock, Net, NetFault, Shelf, Sink, Words};
 /// connection. Where the configuration names another directory, that is followed meanwhile. It is
 /// `NoMemory` where memory runs out.
 pub fn serve_with<
-    R: Threads + Wait + Eprint + Sync,
+    R: Threads + Wait + Sync,
     E: Sink,
     F: Shelf,
     N: Net,
-    K: Clock + Sync,
+    K: Clock,
     W: Words,
     G: Gate + Sync,
 >(
@@ -45,7 +45,7 @@ pub fn serve_with<
     errors: &mut E,
     shelf: &mut F,
     net: &mut N,
-    clock: K,
+    clock: &mut K,
     random: &mut W,
     gate: &G,
 ) -> Result<Status, NoMemory>
@@ -64,13 +64,14 @@ pub fn serve_with<
         (F.files shelf.new) (F.shelf_fault_count shelf.new)
         (N.served net.new) (N.net_fault_count net.new) (W.word_fault_count random.new))
         result }
+    // Files are only read.
+    ensures files { F.files shelf.new ≡ F.files shelf.old }
     // Where there is no memory nothing was said.
     ensures unsaid { OnErr result (errors.new ≡ errors.old) }
 {
-    let mut clock = clock;
-    let setup = set_up(rt, alloc, name, shelf, &mut clock, random)?;
+    let setup = set_up(rt, alloc, name, shelf, clock, random)?;
     match setup {
-        Setup::Ready(ready) => serve_ready(rt, alloc, ready, errors, net, clock, gate),
+        Setup::Ready(ready) => serve_ready(rt, alloc, ready, errors, net, *clock, gate),
         Setup::Refused(refusal) => refuse(alloc, errors, &refusal),
         Setup::ReadFault => Ok(read_fault(errors)),
     }

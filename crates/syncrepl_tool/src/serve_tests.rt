@@ -94,7 +94,7 @@ fn words_of(alloc: Global) -> Result<FixedWords, NoMemory> {
 }
 
 /// The status of a directory that is served, and what was said.
-fn served<R: Threads + Wait + Eprint + Sync, G: Gate + Sync>(
+fn served<R: Threads + Wait + Sync, G: Gate + Sync>(
     rt: &R,
     alloc: Global,
     files: &[(&str, &[u8])],
@@ -109,7 +109,7 @@ fn served<R: Threads + Wait + Eprint + Sync, G: Gate + Sync>(
         &mut errors,
         &mut shelf_of(alloc, files)?,
         net,
-        FixedClock { micros: 0 },
+        &mut FixedClock { micros: 0 },
         &mut words_of(alloc)?,
         gate,
     )?;

@@ -34,13 +34,7 @@ use sync_provider::Provider;
 
 /// Listens at the address of a directory, and serves its connections. Where it follows another
 /// directory, that is followed meanwhile.
-pub(crate) fn serve_ready<
-    R: Threads + Wait + Eprint + Sync,
-    E: Sink,
-    N: Net,
-    K: Clock + Sync,
-    G: Gate + Sync,
->(
+pub(crate) fn serve_ready<R: Threads + Wait + Sync, E: Sink, N: Net, K: Clock, G: Gate + Sync>(
     rt: &R,
     alloc: Global,
     ready: ReadyDirectory,
@@ -75,7 +69,7 @@ pub(crate) fn serve_ready<
 
 /// Listens at the address of a directory, and serves its connections, whether it follows another
 /// one or none.
-fn serve_at<R: Threads + Wait + Eprint + Sync, N: Net, K: Clock + Sync, G: Gate + Sync>(
+fn serve_at<R: Threads + Wait + Sync, N: Net, K: Clock, G: Gate + Sync>(
     rt: &R,
     alloc: Global,
     ready: ReadyDirectory,
@@ -107,7 +101,7 @@ fn serve_at<R: Threads + Wait + Eprint + Sync, N: Net, K: Clock + Sync, G: Gate 
 
 /// Serves the connections that come through the door of a directory, whether it follows another one
 /// or none.
-fn serve_opened<R: Threads + Wait + Eprint + Sync, N: Net, K: Clock + Sync, G: Gate + Sync>(
+fn serve_opened<R: Threads + Wait + Sync, N: Net, K: Clock, G: Gate + Sync>(
     rt: &R,
     alloc: Global,
     ready: ReadyDirectory,
@@ -148,7 +142,7 @@ fn serve_opened<R: Threads + Wait + Eprint + Sync, N: Net, K: Clock + Sync, G: G
 }
 
 /// Serves the connections that come through a door.
-fn serve_alone<R: Threads + Wait + Eprint + Sync, N: Net, K: Clock + Sync, G: Gate + Sync>(
+fn serve_alone<R: Threads + Wait + Sync, N: Net, K: Clock, G: Gate + Sync>(
     rt: &R,
     alloc: Global,
     provider: Provider,
@@ -185,7 +179,7 @@ fn serve_alone<R: Threads + Wait + Eprint + Sync, N: Net, K: Clock + Sync, G: Ga
 
 /// Asks for a caller, and serves the connections that come through a door while an upstream is
 /// followed by that caller, which is let go at the end.
-fn serve_following<R: Threads + Wait + Eprint + Sync, N: Net, K: Clock + Sync, G: Gate + Sync>(
+fn serve_following<R: Threads + Wait + Sync, N: Net, K: Clock, G: Gate + Sync>(
     rt: &R,
     alloc: Global,
     provider: Provider,

@@ -29,7 +29,7 @@ const USAGE: &[u8] =
     b"usage: syncrepl cascade | drill SEED WRITERS CONSUMERS SIZE | serve FILE | search ADDRESS BASE SCOPE FILTER [COUNT]\n";
 
 /// The status of a run of these words, and what it said.
-fn ran<R: Threads + Wait + Eprint + Sync, I: Source, O: Sink>(
+fn ran<R: Threads + Wait + Sync, I: Source, O: Sink>(
     rt: &R,
     alloc: Global,
     words: &[&str],
@@ -94,7 +94,7 @@ settled c 1
 
 /// Asserts that `cascade` on a script of which the start and a settling are done ends with this
 /// status, and says the refusal.
-fn assert_settled<R: Threads + Wait + Eprint + Sync + Abort>(
+fn assert_settled<R: Threads + Wait + Sync + Abort>(
     rt: &R,
     alloc: Global,
     script: Vec<u8>,
@@ -224,7 +224,7 @@ fn other_words_are_refused(rt: HostRuntime) -> Result<(), Fail> {
     Ok(())
 }
 
-fn assert_usage<R: Threads + Wait + Eprint + Sync + Abort>(
+fn assert_usage<R: Threads + Wait + Sync + Abort>(
     rt: &R,
     alloc: Global,
     words: &[&str],

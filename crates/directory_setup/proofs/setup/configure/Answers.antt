@@ -1,5 +1,5 @@
 use Rattle.std.proofs.Common.{inl, inr, refl, sym}
-use Rattle.directory_setup.proofs.ReadTexts.{text_read}
+use Rattle.directory_setup.proofs.ReadTexts.{holds_anyway, text_read}
 use Rattle.directory_setup.proofs.setup.configure.Goals as goal
 
 pub returns-in-Failed-clause-failed : goal.returns-in-Failed-clause-failed
@@ -40,3 +40,11 @@ returns-in-Ok-clause-sound g c = λ _. text_read _ _ c.in-Text.text c.in-Text.is
 
 pub returns-clause-sound : goal.returns-clause-sound
 returns-clause-sound g c = λ _. text_read _ _ c.in-Text.text c.in-Text.is c.in_ok-found.ensures.sound
+
+-- where memory ran out
+
+pub returns-in_err-found-clause-err : goal.returns-in_err-found-clause-err
+returns-in_err-found-clause-err g c = holds_anyway c.from_residual.result c.in_err-found.ensures.err
+
+pub returns-in_err-refusal-in-Err-clause-err : goal.returns-in_err-refusal-in-Err-clause-err
+returns-in_err-refusal-in-Err-clause-err g c = holds_anyway c.from_residual-in_err-refusal-in-Err.result (text_read _ _ c.in-Text.text c.in-Text.is c.in_ok-found.ensures.sound)

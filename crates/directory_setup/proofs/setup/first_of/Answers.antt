@@ -1,4 +1,5 @@
 use Rattle.std.proofs.Common.{refl}
+use Rattle.directory_setup.proofs.ReadTexts.{holds_anyway}
 use Rattle.directory_setup.proofs.Setups.{empty_made}
 use Rattle.directory_setup.proofs.setup.first_of.Goals as goal
 
@@ -10,3 +11,6 @@ returns-clause-first g c =
 
 pub returns-clause-sound : goal.returns-clause-sound
 returns-clause-sound g c = λ _. c.in-Some.ensures.sound refl
+
+pub returns-in_err-provider-clause-err : goal.returns-in_err-provider-clause-err
+returns-in_err-provider-clause-err g c = holds_anyway c.from_residual.result (c.in-Some.ensures.sound refl)

@@ -1,5 +1,5 @@
 use Rattle.std.proofs.Common.{inl, inr, refl, sym}
-use Rattle.directory_setup.proofs.ReadTexts.{text_read}
+use Rattle.directory_setup.proofs.ReadTexts.{holds_anyway, text_read}
 use Rattle.directory_setup.proofs.setup.load.Goals as goal
 
 pub returns-in_default-clause-loads : goal.returns-in_default-clause-loads
@@ -46,3 +46,11 @@ returns-in-Filled-clause-sound g c = λ _. text_read _ _ c.in-Text.text c.in-Tex
 
 pub returns-clause-sound : goal.returns-clause-sound
 returns-clause-sound g c = λ _. text_read _ _ c.in-Text.text c.in-Text.is c.in_ok-found.ensures.sound
+
+-- where memory ran out
+
+pub returns-in_err-found-clause-err : goal.returns-in_err-found-clause-err
+returns-in_err-found-clause-err g c = holds_anyway c.from_residual.result c.in_err-found.ensures.err
+
+pub returns-in_err-filling-clause-err : goal.returns-in_err-filling-clause-err
+returns-in_err-filling-clause-err g c = holds_anyway c.from_residual-in_err-filling.result (text_read _ _ c.in-Text.text c.in-Text.is c.in_ok-found.ensures.sound)

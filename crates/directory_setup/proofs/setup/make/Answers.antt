@@ -1,4 +1,5 @@
 use Rattle.std.proofs.Common.{List, inr, refl, rules, subst, sym}
+use Rattle.std.proofs.lemmas.Result.{err_from_is_err_and}
 use Rattle.dn_names.specs.Names.{TypeAndValue}
 use Rattle.sync_provider.specs.declared.provider.Kind.{Kind}
 use Rattle.directory_setup.specs.Setup.{FailsOn, HasFilter, HasSeats, IsEmpty, Makes}
@@ -43,6 +44,7 @@ returns-in-Ok-clause-servable g c =
       filter = subst (λ setup. HasFilter setup) (sym c.setup_of.ensures) (has_filter c.in-Ok.loading _ c.requires.filter);
       failed = subst (λ setup. FailsOn setup shelf shelf' words words') (sym c.setup_of.ensures)
           (fails_of c.in-Ok.loading _ shelf shelf' words words' (c.in_ok-provider.ensures.sound (rw c.in-Some.is refl)) c.in-Ok.ensures.sound c.in-Ok.ensures.failed);
+      sound = tt;
       files = search rules;
       shelf_later = search rules;
       words_later = search rules;
@@ -53,7 +55,31 @@ returns-in_default-clause-servable g c = record {
   seats = tt;
   filter = tt;
   failed = inr (c.in_ok-provider.ensures.failed (rw c.in_default.is refl));
+  sound = tt;
   files = refl;
+  shelf_later = search rules;
+  words_later = search rules;
+}
+
+-- where memory ran out
+
+pub returns-in_err-access-clause-servable : goal.returns-in_err-access-clause-servable
+returns-in_err-access-clause-servable g c =
+    let ran = err_from_is_err_and c.from_residual.result c.from_residual.ensures.1 in
+    rw ran.1 (record { seats = tt; filter = tt; failed = tt; sound = (refl, refl); files = refl; shelf_later = search rules; words_later = search rules })
+
+pub returns-in_err-provider-clause-servable : goal.returns-in_err-provider-clause-servable
+returns-in_err-provider-clause-servable g c =
+    let ran = err_from_is_err_and c.from_residual-in_err-provider.result c.from_residual-in_err-provider.ensures.1 in
+    rw ran.1 (record { seats = tt; filter = tt; failed = tt; sound = (refl, c.in_err-provider.ensures.err); files = refl; shelf_later = search rules; words_later = search rules })
+
+pub returns-in-Err-clause-servable : goal.returns-in-Err-clause-servable
+returns-in-Err-clause-servable g c = record {
+  seats = tt;
+  filter = tt;
+  failed = tt;
+  sound = (c.in-Err.ensures.err, c.in_ok-provider.ensures.sound (rw c.in-Some.is refl));
+  files = search rules;
   shelf_later = search rules;
   words_later = search rules;
 }

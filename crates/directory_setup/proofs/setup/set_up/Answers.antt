@@ -1,5 +1,5 @@
 use Rattle.std.proofs.Common.{◌≡◌, ◌∙◌, inl, refl, rules}
-use Rattle.std.proofs.lemmas.Result.{IfOk-weaker}
+use Rattle.std.proofs.lemmas.Result.{IfOk-weaker, err_from_is_err_and, on_err_weaker}
 use Rattle.directory_setup.specs.Setup.{IsReadConfig}
 use Rattle.directory_setup.specs.declared.setup.Configured.TheVariants.{Config, ReadFault, Refused}
 use Rattle.directory_setup.proofs.Setups.{made_set_up}
@@ -28,6 +28,7 @@ returns-in-Config-clause-servable g c =
       seats = made.seats;
       filter = made.filter;
       failed = rw same at made.failed;
+      sound = on_err_weaker c.make.result (λ both. (both.0 ∙ same, both.1)) made.sound;
       files = made.files ∙ c.in_ok-configured.ensures.files;
       shelf_later = rw same at made.shelf_later;
       words_later = made.words_later;
@@ -43,6 +44,7 @@ returns-in-Refused-clause-servable g c =
       seats = tt;
       filter = tt;
       failed = (read (λ is. let wrong : Refused c.in-Refused.refusal ≡ ReadFault = is in cc), refl);
+      sound = tt;
       files = c.in_ok-configured.ensures.files;
       shelf_later = c.in_ok-configured.ensures.later;
       words_later = search rules;
@@ -53,7 +55,16 @@ returns-in-ReadFault-clause-servable g c = record {
   seats = tt;
   filter = tt;
   failed = inl (c.in_ok-configured.ensures.failed c.in-ReadFault.is);
+  sound = tt;
   files = c.in_ok-configured.ensures.files;
   shelf_later = c.in_ok-configured.ensures.later;
   words_later = search rules;
 }
+
+-- where memory ran out
+pub returns-in_err-configured-clause-servable : goal.returns-in_err-configured-clause-servable
+returns-in_err-configured-clause-servable g c =
+    let ran = err_from_is_err_and c.from_residual.result c.from_residual.ensures.1 in
+    let files = c.in_err-configured.ensures.files in
+    let later = c.in_err-configured.ensures.later in
+    rw ran.1 (record { seats = tt; filter = tt; failed = tt; sound = (c.in_err-configured.ensures.err, refl); files = files; shelf_later = later; words_later = search rules })

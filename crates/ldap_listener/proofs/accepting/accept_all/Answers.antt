@@ -18,7 +18,7 @@ loop-init g c = record {
 pub loop-preserved : goal.loop-preserved
 loop-preserved g c =
     let was = c.loop.invariant in
-    let one = c.in-Ok.ensures.accounts in
+    let one = c.in-Ok.ensures in
     record {
       k = was.k + one.count;
       keeps = keeps-then (seen_by g.N.Link.Source.bytes_left g.N.Link.Source.bytes_read g.N.Link.Sink.bytes_held g.N.Link.Source.read_fault_count g.N.Link.Sink.write_fault_count)
@@ -29,29 +29,24 @@ loop-preserved g c =
                 omega (arith, first.0, first.1, some, one.known, w.if-number-connections.false, c.saturating_add-number.ensures, c.ranges.connections)
             | else-connections-ne0-via-else-connections-ne0 w ↦ absurd (omega (arith, some, w.if-connections-ne0.false))
           ];
-      faults = c.in-Ok.ensures.faults.faultless (λ e. let never : ⊥ = cc in never) ∙ was.faults;
+      faults = one.faults.faultless (λ e. let never : ⊥ = cc in never) ∙ was.faults;
     }
 
-pub returns-in-Err-clause-accounts : goal.returns-in-Err-clause-accounts
-returns-in-Err-clause-accounts g c =
+pub returns-in-Err : goal.returns-in-Err
+returns-in-Err g c =
     let was = c.loop.invariant in
-    let one = c.in-Err.ensures.accounts in
+    let one = c.in-Err.ensures in
     record {
       count = was.k + one.count;
       known = tt;
       keeps = keeps-then (seen_by g.N.Link.Source.bytes_left g.N.Link.Source.bytes_read g.N.Link.Sink.bytes_held g.N.Link.Source.read_fault_count g.N.Link.Sink.write_fault_count)
           c.args.server.now.access.now (directory_id c.args.server.now.directory.now) was.k one.count _ _ _ _ _ _ was.keeps one.keeps;
+      faults = faults-then _ _ _ _ was.faults one.faults;
     }
 
-pub returns-in-Err-clause-faults : goal.returns-in-Err-clause-faults
-returns-in-Err-clause-faults g c = faults-then _ _ _ _ c.loop.invariant.faults c.in-Err.ensures.faults
-
 -- all came
-pub returns-then-number-connections-clause-accounts : goal.returns-then-number-connections-clause-accounts
-returns-then-number-connections-clause-accounts g c =
+pub returns-then-number-connections : goal.returns-then-number-connections
+returns-then-number-connections g c =
     let was = c.loop.invariant in
     let some : 0 < c.args.connections = omega (arith, c.if-connections-ne0.true) in
-    record { count = was.k; known = (some, (was.number some).0 ∙ c.if-number-connections.true); keeps = was.keeps }
-
-pub returns-then-number-connections-clause-faults : goal.returns-then-number-connections-clause-faults
-returns-then-number-connections-clause-faults g c = faults-none _ _ _ c.loop.invariant.faults
+    record { count = was.k; known = (some, (was.number some).0 ∙ c.if-number-connections.true); keeps = was.keeps; faults = faults-none _ _ _ was.faults }

@@ -15,27 +15,26 @@ start-requires-clause-pass g c =
     let seat = c.wait_for_seat-place.ensures in
     let place = c.wait_for_seat-place.result in
     let there = there-free c.wait_for_seat-place.new.seats place _ _ _ _ seat.place c.replace.ensures.value (ap seat_of c.in-Free.is) in
-    let ours = free-seated _ _ _ _ _ there seat.accounts.order.seated in
+    let ours = free-seated _ _ _ _ _ there seat.keeps.accounts.order.seated in
     search rules
 
 -- ---- no link came
 
-pub returns-in-Err-clause-accounts : goal.returns-in-Err-clause-accounts
-returns-in-Err-clause-accounts g c = record {
-  count = 0;
-  known = tt;
-  keeps = rw (c.in-Err.ensures.served, accepts-none (g.N.Net.served c.wait_for_seat-place.new.net)) c.wait_for_seat-place.ensures.accounts;
-}
-
-pub returns-in-Err-clause-faults : goal.returns-in-Err-clause-faults
-returns-in-Err-clause-faults g c =
+pub returns-in-Err : goal.returns-in-Err
+returns-in-Err g c =
     let came = c.in-Err.ensures in
-    faults-then _ _ _ _ c.wait_for_seat-place.ensures.faults (record { failed = came.failed; faultless = came.faultless; later = came.later })
+    let seats = c.wait_for_seat-place.ensures.keeps in
+    record {
+      count = 0;
+      known = tt;
+      keeps = rw (came.served, accepts-none (g.N.Net.served c.wait_for_seat-place.new.net)) seats.accounts;
+      faults = faults-then _ _ _ _ seats.faults (record { failed = came.failed; faultless = came.faultless; later = came.later });
+    }
 
 -- ---- its thread was started
 
-pub returns-in-Ok-start-clause-accounts : goal.returns-in-Ok-start-clause-accounts
-returns-in-Ok-start-clause-accounts g c =
+pub returns-in-Ok-start : goal.returns-in-Ok-start
+returns-in-Ok-start g c =
     let v = seen_by g.N.Link.Source.bytes_left g.N.Link.Source.bytes_read g.N.Link.Sink.bytes_held g.N.Link.Source.read_fault_count g.N.Link.Sink.write_fault_count in
     let access = c.args.server.now.access.now in
     let cell = directory_id c.args.server.now.directory.now in
@@ -46,21 +45,18 @@ returns-in-Ok-start-clause-accounts g c =
     let out : seat_of (Busy c.in-Ok-start.child) ≡ busy (cell_of c.in-Free.pass) (view_of c.in-Free.pass) access c.in-Ok.link = rw (given.0, given.1, given.2) refl in
     let put = twice c.wait_for_seat-place.new.seats place c.replace.new.dest (Busy c.in-Ok-start.child) ∙ ap (set (map seat_of c.wait_for_seat-place.new.seats) place) out in
     let fresh = both-some _ _ _ c.in-Ok.ensures.unused c.in-Ok.ensures.sound in
-    let taken = keeps-taken v access cell _ _ place _ _ c.in-Ok.link there seat.accounts.order (fresh_is v c.in-Ok.link _ fresh) in
+    let taken = keeps-taken v access cell _ _ place _ _ c.in-Ok.link there seat.keeps.accounts.order (fresh_is v c.in-Ok.link _ fresh) in
     record {
       count = 1;
       known = refl;
-      keeps = rw (c.in-Ok.ensures.served, put) (keeps-then v access cell 0 1 _ _ _ _ _ _ seat.accounts taken);
+      keeps = rw (c.in-Ok.ensures.served, put) (keeps-then v access cell 0 1 _ _ _ _ _ _ seat.keeps.accounts taken);
+      faults = faults-none _ _ _ (c.in-Ok.ensures.faultless (λ e. let never : ⊥ = cc in never) ∙ seat.keeps.faults);
     }
-
-pub returns-in-Ok-start-clause-faults : goal.returns-in-Ok-start-clause-faults
-returns-in-Ok-start-clause-faults g c =
-    faults-none _ _ _ (c.in-Ok.ensures.faultless (λ e. let never : ⊥ = cc in never) ∙ c.wait_for_seat-place.ensures.faults)
 
 -- ---- the link was served here
 
-pub returns-in-Err-start-clause-accounts : goal.returns-in-Err-start-clause-accounts
-returns-in-Err-start-clause-accounts g c =
+pub returns-in-Err-start : goal.returns-in-Err-start
+returns-in-Err-start g c =
     let v = seen_by g.N.Link.Source.bytes_left g.N.Link.Source.bytes_read g.N.Link.Sink.bytes_held g.N.Link.Source.read_fault_count g.N.Link.Sink.write_fault_count in
     let access = c.args.server.now.access.now in
     let cell = directory_id c.args.server.now.directory.now in
@@ -70,13 +66,10 @@ returns-in-Err-start-clause-accounts g c =
     let put = twice c.wait_for_seat-place.new.seats place c.replace.new.dest (Free c.in-Err-start.served.pass) in
     let fresh = both-some _ _ _ c.in-Ok.ensures.unused c.in-Ok.ensures.sound in
     let back = c.in-Err-start.ensures.err in
-    let here = keeps-served v access cell _ _ place _ _ _ _ c.in-Ok.link _ there seat.accounts.order (fresh_is v c.in-Ok.link _ fresh) back.0 back.1 in
+    let here = keeps-served v access cell _ _ place _ _ _ _ c.in-Ok.link _ there seat.keeps.accounts.order (fresh_is v c.in-Ok.link _ fresh) back.0 back.1 in
     record {
       count = 1;
       known = refl;
-      keeps = rw (c.release.ensures.served, c.in-Ok.ensures.served, put) (keeps-then v access cell 0 1 _ _ _ _ _ _ seat.accounts here);
+      keeps = rw (c.release.ensures.served, c.in-Ok.ensures.served, put) (keeps-then v access cell 0 1 _ _ _ _ _ _ seat.keeps.accounts here);
+      faults = faults-none _ _ _ (c.release.ensures.faults ∙ c.in-Ok.ensures.faultless (λ e. let never : ⊥ = cc in never) ∙ seat.keeps.faults);
     }
-
-pub returns-in-Err-start-clause-faults : goal.returns-in-Err-start-clause-faults
-returns-in-Err-start-clause-faults g c =
-    faults-none _ _ _ (c.release.ensures.faults ∙ c.in-Ok.ensures.faultless (λ e. let never : ⊥ = cc in never) ∙ c.wait_for_seat-place.ensures.faults)

@@ -9,8 +9,8 @@ use Rattle.ldap_listener.proofs.accepting.start.Goals as goal
 
 pub spawn_with-requires-send-F : goal.spawn_with-requires-send-F
 spawn_with-requires-send-F g c κs within =
-    let given = given_send (record { mir = named 7; lft = κs.1.1.1.1.1.1.1.0 }) (param 1 g.row.R) (copied 3 g.row.K) (param 4 g.row.G)
-    c.type_bounds.sync-R c.type_bounds.sync-K c.type_bounds.sync-G (param 6 g.row.N-Link) c.type_bounds.send-N-Link (codes "ldap_listener::accepting::fn::start::serve+Self") (record { mir = named 6; lft = κs.1.1.1.1.1.1.0 }) in
+    let given = given_send (record { mir = named 7; lft = κs.1.1.1.1.1.1.1.0 }) (param 1 g.row.R) (param 4 g.row.G) c.type_bounds.sync-R c.type_bounds.sync-G
+    (copied 3 g.row.K) (param 6 g.row.N-Link) c.type_bounds.send-K c.type_bounds.send-N-Link (codes "ldap_listener::accepting::fn::start::serve+Self") (record { mir = named 6; lft = κs.1.1.1.1.1.1.0 }) in
     param_send 2 _ (arg_send _ no _ given)
 
 pub spawn_with-requires-send-T : goal.spawn_with-requires-send-T

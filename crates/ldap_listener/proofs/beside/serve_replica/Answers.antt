@@ -18,7 +18,7 @@ serve_beside-accepted-requires-clause-pass g c =
     search rules
 
 pub close_all-provider-requires-clause-seated : goal.close_all-provider-requires-clause-seated
-close_all-provider-requires-clause-seated g c κs within = c.serve_beside-accepted.ensures.serves.accounts.keeps.order.seated
+close_all-provider-requires-clause-seated g c κs within = c.serve_beside-accepted.ensures.serves.accepts.keeps.order.seated
 
 pub close_all-provider-requires-clause-free : goal.close_all-provider-requires-clause-free
 close_all-provider-requires-clause-free g c =
@@ -37,7 +37,7 @@ pub returns-clause-serves : goal.returns-clause-serves
 returns-clause-serves g c =
     let before = c.in-Ok-open_beside.seats.items in
     let after = c.serve_beside-accepted.result.1.items in
-    let all = c.serve_beside-accepted.ensures.serves.accounts in (
+    let all = c.serve_beside-accepted.ensures.serves.accepts in (
       all.count,
       all.known,
       serves_beside
@@ -46,10 +46,10 @@ returns-clause-serves g c =
     )
 
 pub returns-clause-failed : goal.returns-clause-failed
-returns-clause-failed g c = c.serve_beside-accepted.ensures.serves.faults.failed
+returns-clause-failed g c = c.serve_beside-accepted.ensures.serves.accepts.faults.failed
 
 pub returns-clause-faultless : goal.returns-clause-faultless
-returns-clause-faultless g c = c.serve_beside-accepted.ensures.serves.faults.faultless
+returns-clause-faultless g c = c.serve_beside-accepted.ensures.serves.accepts.faults.faultless
 
 pub returns-clause-later : goal.returns-clause-later
-returns-clause-later g c = c.serve_beside-accepted.ensures.serves.faults.later
+returns-clause-later g c = c.serve_beside-accepted.ensures.serves.accepts.faults.later

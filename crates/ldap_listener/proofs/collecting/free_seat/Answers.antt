@@ -25,13 +25,16 @@ release-requires g c =
           (there-busy c.args.seats.now c.args.place _ _ _ _ _ _ c.requires.place c.replace.ensures.value (ap seat_of c.in-Busy.is)) c.requires.order.room;
     }
 
-pub returns-in-Busy-clause-accounts : goal.returns-in-Busy-clause-accounts
-returns-in-Busy-clause-accounts g c =
+pub returns-in-Busy-clause-keeps : goal.returns-in-Busy-clause-keeps
+returns-in-Busy-clause-keeps g c =
     let there = there-busy c.args.seats.now c.args.place _ _ _ _ _ _ c.requires.place c.replace.ensures.value (ap seat_of c.in-Busy.is) in
     let back = c.join-pass.ensures in
-    rw (c.release.ensures.served, twice c.args.seats.now c.args.place c.replace.new.dest (Free c.join-pass.result.pass))
-    (keeps-freed (seen_by g.N.Link.Source.bytes_left g.N.Link.Source.bytes_read g.N.Link.Sink.bytes_held g.N.Link.Source.read_fault_count g.N.Link.Sink.write_fault_count)
-    c.args.server.now.access.now (directory_id c.args.server.now.directory.now) _ _ c.args.place _ _ _ _ _ _ _ there c.requires.order back.0 back.1)
+    record {
+      accounts = rw (c.release.ensures.served, twice c.args.seats.now c.args.place c.replace.new.dest (Free c.join-pass.result.pass))
+          (keeps-freed (seen_by g.N.Link.Source.bytes_left g.N.Link.Source.bytes_read g.N.Link.Sink.bytes_held g.N.Link.Source.read_fault_count g.N.Link.Sink.write_fault_count)
+          c.args.server.now.access.now (directory_id c.args.server.now.directory.now) _ _ c.args.place _ _ _ _ _ _ _ there c.requires.order back.0 back.1);
+      faults = c.release.ensures.faults;
+    }
 
 pub returns-in-Busy-clause-free : goal.returns-in-Busy-clause-free
 returns-in-Busy-clause-free g c =
@@ -49,7 +52,10 @@ returns-in_default g c =
     let same : map seat_of (set (set seats i c.replace.new.dest) i c.replace.result) ≡ map seat_of seats =
     ap (map seat_of) (set-set seats i c.replace.new.dest c.replace.result ∙ ap (set seats i) c.replace.ensures.value ∙ set-get_or seats i _) in
     record {
-      accounts = rw same (keeps-none (seen_by g.N.Link.Source.bytes_left g.N.Link.Source.bytes_read g.N.Link.Sink.bytes_held g.N.Link.Source.read_fault_count g.N.Link.Sink.write_fault_count) c.args.server.now.access.now (directory_id c.args.server.now.directory.now) _ _ c.requires.order);
+      keeps = record {
+        accounts = rw same (keeps-none (seen_by g.N.Link.Source.bytes_left g.N.Link.Source.bytes_read g.N.Link.Sink.bytes_held g.N.Link.Source.read_fault_count g.N.Link.Sink.write_fault_count) c.args.server.now.access.now (directory_id c.args.server.now.directory.now) _ _ c.requires.order);
+        faults = refl;
+      };
       free = (
           let one = get_or-map seat_of seats i Vacant in
           let read : get_or seats i Vacant ≡ c.replace.result = get_or_default seats i Vacant _ c.requires.place ∙ sym c.replace.ensures.value in
@@ -57,5 +63,4 @@ returns-in_default g c =
           (rw one at (seated-at _ (map seat_of seats) i vacant (omega (arith, length-map seats seat_of, c.requires.place)) c.requires.order.seated))
           (λ x is. c.in_default.not-Busy x (sym read ∙ is))));
       kept = λ k at. rw same at;
-      faults = refl;
     }

@@ -14,7 +14,7 @@ serve_links-accepted-requires-clause-order g c =
 
 pub close_seats-requires-clause-seated : goal.close_seats-requires-clause-seated
 close_seats-requires-clause-seated g c =
-    let seated = c.serve_links-accepted.ensures.accounts.keeps.order.seated in
+    let seated = c.serve_links-accepted.ensures.accepts.keeps.order.seated in
     search rules
 
 pub close_seats-requires-clause-free : goal.close_seats-requires-clause-free
@@ -32,7 +32,7 @@ close_seats-requires-clause-room g c =
 
 pub returns-clause-serves : goal.returns-clause-serves
 returns-clause-serves g c =
-    let all = c.serve_links-accepted.ensures.accounts in (
+    let all = c.serve_links-accepted.ensures.accepts in (
       all.count,
       all.known,
       serves_all
@@ -41,10 +41,10 @@ returns-clause-serves g c =
     )
 
 pub returns-clause-failed : goal.returns-clause-failed
-returns-clause-failed g c = c.serve_links-accepted.ensures.faults.failed
+returns-clause-failed g c = c.serve_links-accepted.ensures.accepts.faults.failed
 
 pub returns-clause-faultless : goal.returns-clause-faultless
-returns-clause-faultless g c = c.serve_links-accepted.ensures.faults.faultless
+returns-clause-faultless g c = c.serve_links-accepted.ensures.accepts.faults.faultless
 
 pub returns-clause-later : goal.returns-clause-later
-returns-clause-later g c = c.serve_links-accepted.ensures.faults.later
+returns-clause-later g c = c.serve_links-accepted.ensures.accepts.faults.later

@@ -22,7 +22,7 @@ returns-in-Err-clause-asks g c = plainly_ended c.in-Err.fault c.last_by.result _
 -- where memory ran out
 
 pub returns-in_default-clause-in_part : goal.returns-in_default-clause-in_part
-returns-in_default-clause-in_part g c = inl (refl, refl)
+returns-in_default-clause-in_part g c = inl (refl, (refl, refl), refl)
 
 pub returns-in-Ok-send-clause-in_part : goal.returns-in-Ok-send-clause-in_part
 returns-in-Ok-send-clause-in_part g c =

@@ -25,7 +25,7 @@ pub returns-in-Err-clause-in_part : goal.returns-in-Err-clause-in_part
 returns-in-Err-clause-in_part g c = λ first start messages so_far.
     let mid = c.loop.invariant.2 first start messages so_far in
     let stops = c.in-Err.ensures.in_part first start mid.0 mid.1 in
-    record { messages = mid.0; parts = mid.1.parts; read = stops.0; printed = stops.1 }
+    record { messages = mid.0; parts = mid.1.parts; read = stops.0; printed = stops.1; faults = stops.2 }
 
 pub returns-in-Ok-Some-clause-held : goal.returns-in-Ok-Some-clause-held
 returns-in-Ok-Some-clause-held g c = c.in-Ok-Some.ensures.held ∙ c.loop.invariant.1

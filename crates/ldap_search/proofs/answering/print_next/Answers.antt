@@ -23,7 +23,7 @@ pub returns-in-Err-clause-prints : goal.returns-in-Err-clause-prints
 returns-in-Err-clause-prints g c = prints_end _ _ c.in-Err.fault _ _ (c.in-Err.ensures.gives c.requires) c.end_by.ensures.ends
 
 pub returns-in-Err-clause-in_part : goal.returns-in-Err-clause-in_part
-returns-in-Err-clause-in_part g c = stops_reading _ _ c.in-Err.fault c.end_by.result _ (c.in-Err.ensures.gives c.requires)
+returns-in-Err-clause-in_part g c = stops_reading _ _ c.in-Err.fault c.end_by.result _ (c.in-Err.ensures.gives c.requires) c.end_by.ensures.memory
 
 pub returns-in-Err-clause-live : goal.returns-in-Err-clause-live
 returns-in-Err-clause-live g c = live_not _ c.in-Err.fault _ c.end_by.ensures.ends

@@ -18,11 +18,16 @@ returns-in-Ok-clause-hangs_up g c =
 
 pub returns-in-Ok-clause-in_part : goal.returns-in-Ok-clause-in_part
 returns-in-Ok-clause-in_part g c =
-    hung_up_in_part _ _ _ c.talk-end.result _ _ c.into_link.result _ _ _ _ _ (ap (λ (s : ClientState). s.link) c.in-Ok.ensures.ok) c.into_link.ensures c.talk-end.ensures.in_part c.hang_up.ensures.dialled
+    hung_up_in_part _ _ _ c.talk-end.result _ _ c.into_link.result _ _ _ _ _ _ _ (ap (λ (s : ClientState). s.link) c.in-Ok.ensures.ok) c.into_link.ensures c.talk-end.ensures.in_part
+    (record { dialled = c.hang_up.ensures.dialled; faulty = c.hang_up.ensures.faulty; sound = c.hang_up.ensures.sound })
 
 pub returns-in-Err-clause-in_part : goal.returns-in-Err-clause-in_part
 returns-in-Err-clause-in_part g c = record {
   back = c.args.link;
   talks = not_talked _ _ _ _ _ refl;
-  dialled = rw c.in-Err.ensures.err at c.hang_up-in-Err.ensures.dialled;
+  hangs_up = record {
+    dialled = rw c.in-Err.ensures.err at c.hang_up-in-Err.ensures.dialled;
+    faulty = rw c.in-Err.ensures.err at c.hang_up-in-Err.ensures.faulty;
+    sound = rw c.in-Err.ensures.err at c.hang_up-in-Err.ensures.sound;
+  };
 }

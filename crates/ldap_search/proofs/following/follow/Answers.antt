@@ -41,12 +41,12 @@ returns-in-Ok-Some-follow_next-clause-asks g c =
 -- where memory ran out
 
 pub returns-in_err-new-clause-in_part : goal.returns-in_err-new-clause-in_part
-returns-in_err-new-clause-in_part g c = holds_anyway c.from_residual.result (inl (refl, refl))
+returns-in_err-new-clause-in_part g c = holds_anyway c.from_residual.result (inl (refl, (refl, refl), refl))
 
 pub returns-in-Err-clause-in_part : goal.returns-in-Err-clause-in_part
-returns-in-Err-clause-in_part g c = inl (c.in-Err.ensures.unwritten, refl)
+returns-in-Err-clause-in_part g c = inl (c.in-Err.ensures.unwritten.0, c.in-Err.ensures.unwritten.1, refl)
 
 pub returns-in-Err-follow_next-clause-in_part : goal.returns-in-Err-follow_next-clause-in_part
 returns-in-Err-follow_next-clause-in_part g c =
     let stops = c.in-Err-follow_next.ensures.in_part _ _ _ _ c.loop.invariant.0 c.loop.invariant.1 in
-    follows_in_part _ _ _ _ c.loop.invariant.0 _ _ _ _ _ _ c.loop.invariant.1 stops.0 stops.1
+    follows_in_part _ _ _ _ c.loop.invariant.0 _ _ _ _ _ _ c.loop.invariant.1 stops.0 stops.1 stops.2

@@ -26,7 +26,7 @@ pub returns-in-Err-clause-follows : goal.returns-in-Err-clause-follows
 returns-in-Err-clause-follows g c = follows_end _ _ _ _ c.in-Err.fault _ _ (c.in-Err.ensures.gives c.requires.live) c.end_by.ensures.ends
 
 pub returns-in-Err-clause-in_part : goal.returns-in-Err-clause-in_part
-returns-in-Err-clause-in_part g c = stops_waiting _ _ _ _ c.in-Err.fault _ c.end_by.result (c.in-Err.ensures.gives c.requires.live)
+returns-in-Err-clause-in_part g c = stops_waiting _ _ _ _ c.in-Err.fault _ c.end_by.result (c.in-Err.ensures.gives c.requires.live) c.end_by.ensures.memory
 
 pub returns-in-Err-clause-live : goal.returns-in-Err-clause-live
 returns-in-Err-clause-live g c = live_not _ c.in-Err.fault _ c.end_by.ensures.ends

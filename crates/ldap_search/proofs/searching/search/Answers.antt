@@ -41,3 +41,9 @@ returns-in-Err-Failed-clause-searches g c = record { came = inl (refl, refl, c.i
 pub returns-in-Ok-clause-in_part : goal.returns-in-Ok-clause-in_part
 returns-in-Ok-clause-in_part g c =
     on_err_weaker c.call-end.result (λ calls. record { came = inr (_, _, c.in-Ok.ensures.next, calls, rw c.in-Ok.ensures.served at c.retire.ensures.served) }) c.call-end.ensures.in_part
+
+pub returns-in-Ok-clause-net_sound : goal.returns-in-Ok-clause-net_sound
+returns-in-Ok-clause-net_sound g c =
+    on_err_weaker c.call-end.result
+    (λ sound. c.retire.ensures.sound (sound ∙ c.in-Ok.ensures.sound) ∙ c.in-Ok.ensures.faultless (λ e. let never : ⊥ = cc in never))
+    c.call-end.ensures.net_sound

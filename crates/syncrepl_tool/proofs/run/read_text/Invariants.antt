@@ -1,4 +1,4 @@
-use Rattle.std.proofs.Common.{◌≡◌, ◌≤◌, ◌-◌, false, length}
+use Rattle.std.proofs.Common.{◌≡◌, ◌-◌, false, length}
 use Rattle.std.specs.Io.KnownBytes.{Consumes}
 use Rattle.syncrepl_tool.proofs.run.read_text.Given as goal
 
@@ -8,7 +8,7 @@ invariant-loop-buffer g l =
     record {
       left : Consumes (g.I.Source.bytes_left l.fn.input) (g.I.Source.bytes_left l.input) l.text.items;
       waits : g.I.Source.waits l.input ≡ false;
-      later : g.I.Source.read_fault_count l.fn.input ≤ g.I.Source.read_fault_count l.input;
+      sound : g.I.Source.read_fault_count l.input ≡ g.I.Source.read_fault_count l.fn.input;
       size : length l.buffer ≡ 4096;
     }
 

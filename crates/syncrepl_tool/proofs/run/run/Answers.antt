@@ -1,9 +1,10 @@
-use Rattle.std.proofs.Common.{inl, inr}
-use Rattle.std.proofs.lemmas.Result.{IfOk-weaker}
+use Rattle.std.proofs.Common.{[], inl, inr, refl}
+use Rattle.std.proofs.KnownBytes.{Consumes-nil}
+use Rattle.std.proofs.lemmas.Result.{IfOk-weaker, on_err_weaker}
 use Rattle.syncrepl_tool.proofs.Ending.{prefix_of_nothing}
 use Rattle.syncrepl_tool.proofs.Forms.{not_both, same_name}
 use Rattle.syncrepl_tool.proofs.SearchForms.{no_form, not_cascade, not_serve, not_two, not_two_served, same_asked}
-use Rattle.syncrepl_tool.proofs.Statuses.{of_usage}
+use Rattle.syncrepl_tool.proofs.Statuses.{holds_anyway, of_usage}
 use Rattle.syncrepl_tool.proofs.run.run.Goals as goal
 
 -- ---- a script
@@ -30,7 +31,7 @@ returns-then-is_cascade-clause-codes g c =
 -- ---- a directory that is served
 
 pub returns-in-Some-clause-headline : goal.returns-in-Some-clause-headline
-returns-in-Some-clause-headline g c unlike = prefix_of_nothing _ _
+returns-in-Some-clause-headline g c unlike = prefix_of_nothing _ _ _ c.requires.fresh
 
 pub returns-in-Some-clause-serves : goal.returns-in-Some-clause-serves
 returns-in-Some-clause-serves g c name serve =
@@ -108,10 +109,10 @@ returns-in-Some-search_words-clause-complete g c =
 -- ---- other words
 
 pub returns-in-None-clause-headline : goal.returns-in-None-clause-headline
-returns-in-None-clause-headline g c unlike = prefix_of_nothing _ _
+returns-in-None-clause-headline g c unlike = prefix_of_nothing _ _ _ c.requires.fresh
 
 pub returns-in-None-clause-answer : goal.returns-in-None-clause-answer
-returns-in-None-clause-answer g c cascade = of_usage _ _ _ _ c.usage.ensures.code
+returns-in-None-clause-answer g c cascade = of_usage _ _ _ _ c.usage.ensures.code refl refl
 
 pub returns-in-None-clause-codes : goal.returns-in-None-clause-codes
 returns-in-None-clause-codes g c =
@@ -128,3 +129,20 @@ returns-in-None-clause-serves g c name serve = absurd (c.in_default.ensures.none
 
 pub returns-in-None-clause-apart : goal.returns-in-None-clause-apart
 returns-in-None-clause-apart g c name serve = absurd (c.in_default.ensures.none name serve)
+
+-- ---- where memory ran out no call failed, and the input is read from its front
+
+pub returns-in-Some-clause-sound : goal.returns-in-Some-clause-sound
+returns-in-Some-clause-sound g c = holds_anyway c.serve_with.result (refl, refl)
+
+pub returns-in-Some-clause-taken : goal.returns-in-Some-clause-taken
+returns-in-Some-clause-taken g c = ([], Consumes-nil _)
+
+pub returns-in-Some-search_words-clause-sound : goal.returns-in-Some-search_words-clause-sound
+returns-in-Some-search_words-clause-sound g c = on_err_weaker c.search_for.result (λ runs. (refl, runs.output_sound)) c.search_for.ensures.searches.without_memory
+
+pub returns-in-Some-search_words-clause-taken : goal.returns-in-Some-search_words-clause-taken
+returns-in-Some-search_words-clause-taken g c = ([], Consumes-nil _)
+
+pub returns-in-None-clause-taken : goal.returns-in-None-clause-taken
+returns-in-None-clause-taken g c = ([], Consumes-nil _)

@@ -38,4 +38,5 @@ returns-in_err-reading-clause-searches g c =
     rw ran.1 (runs_out_unasked ran.0 refl refl refl)
 
 pub returns-in-Err-clause-searches : goal.returns-in-Err-clause-searches
-returns-in-Err-clause-searches g c = runs_out_asked _ _ (rw c.in-Wanted.is at c.in_ok-reading.ensures.reads) c.in-Err.ensures.in_part
+returns-in-Err-clause-searches g c =
+    runs_out_asked _ _ (rw c.in-Wanted.is at c.in_ok-reading.ensures.reads) c.in-Err.ensures.in_part c.in-Err.ensures.output_sound c.in-Err.ensures.net_sound

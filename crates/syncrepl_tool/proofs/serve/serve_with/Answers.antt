@@ -12,7 +12,7 @@ serve_ready-requires-clause-filter g c κs within = rw c.in-Ready.is at c.in_ok-
 pub returns-in_err-setup-clause-serves : goal.returns-in_err-setup-clause-serves
 returns-in_err-setup-clause-serves g c =
     let ran = err_from_is_err_and c.from_residual.result c.from_residual.ensures.1 in
-    rw ran.1 (runs_out_first _ c.args.name.now _ _ ran.0 refl refl)
+    rw ran.1 (runs_out_first _ c.args.name.now _ _ ran.0 c.in_err-setup.ensures.servable.sound refl refl)
 
 pub returns-in-Ready-clause-serves : goal.returns-in-Ready-clause-serves
 returns-in-Ready-clause-serves g c =

@@ -1,8 +1,8 @@
-use Rattle.std.proofs.Common.{◌+◌, ◌<◌, false, inl, inr, length, true, ap, refl, rules, subst, sym, ◌∙◌}
-use Rattle.std.specs.Prelude.{IfSome}
+use Rattle.std.proofs.Common.{false, inl, inr, true, ap, refl, rules, ◌∙◌}
 use Rattle.ldap_client.specs.Links.{link_by}
 use Rattle.ldap_listener.specs.Sessions.{seen_by}
-use Rattle.syncrepl_tool.proofs.EndedServing.{faults_between, faults_none, faults_of, opened_beside, room_after, room_to_retire}
+use Rattle.ldap_search.proofs.Called.{room_to_retire}
+use Rattle.syncrepl_tool.proofs.EndedServing.{faults_between, faults_none, faults_of, opened_beside, room_after}
 use Rattle.syncrepl_tool.specs.Serving.{net_view}
 use Rattle.syncrepl_tool.proofs.serving.serve_following.Goals as goal
 
@@ -26,9 +26,7 @@ returns-in_default-clause-faults g c =
 -- the caller that came can be let go
 pub let_go-requires : goal.let_go-requires
 let_go-requires g c =
-    let came = room_to_retire (g.N.Net.served c.args.net.now) (g.met.N.Net.callers_within c.args.net.now) in
-    let first =
-    subst (λ s. IfSome s (λ t. length t.retired + length t.gone < t.callers)) (sym c.in-Ok.ensures.served) came in
+    let first = room_to_retire (g.N.Net.served c.args.net.now) _ c.in-Ok.ensures.served (g.met.N.Net.callers_within c.args.net.now) in
     let room = room_after _ _ _ _ c.in-Ok-serve_replica.ensures.serves.2.served.reported first in
     search rules
 

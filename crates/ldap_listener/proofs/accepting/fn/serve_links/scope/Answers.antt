@@ -18,7 +18,6 @@ returns g c =
       serves = record {
         count = rw back (length-map seats seat_of ∙ as_many ∙ sym (length-map c.captures.seats.items seat_of));
         free = rw back c.free_all.ensures.free;
-        accounts = rw (back, ← c.as_mut_slice-places.ensures.value) (accepts-still _ _ _ _ _ _ _ _ _ _ c.accept_all-accepted.ensures.accounts c.free_all.ensures.accounts);
-        faults = rw c.free_all.ensures.faults c.accept_all-accepted.ensures.faults;
+        accepts = rw (back, ← c.as_mut_slice-places.ensures.value) (accepts-still _ _ _ _ _ _ _ _ _ _ _ _ _ _ c.accept_all-accepted.ensures c.free_all.ensures.keeps);
       };
     }
