@@ -7,7 +7,7 @@ use Rattle.drill_plan.specs.declared.plan.DrillPlan.{DrillPlan}
 use Rattle.drill_plan.specs.Operations.{writer_operations}
 use Rattle.sync_drill.specs.Drilled.{EachAt, done_by}
 use Rattle.sync_drill.specs.Going.{IsDrillPort}
-use Rattle.sync_drill.specs.Journals.{own_operations}
+use Rattle.sync_drill.specs.Journals.{OpenedNone, own_operations}
 use Rattle.sync_drill.specs.Writers.{HasBegun, HasEnded, HasFinished, MayWrite, WriterGoes, begun, first_writing, planned, writings_from}
 use Rattle.sync_drill.specs.declared.writing.Writing.{Writing}
 use Rattle.sync_drill.proofs.Going.{port-goes}
@@ -39,14 +39,15 @@ done_is : (plan : DrillPlan) (writer : ℕ) → begun writer ++ writer_operation
 done_is plan zero = refl
 done_is plan (suc writer) = refl
 
-module _ {P H : Type 0} (home : P → H) (state : P → PortState) (plan : DrillPlan) (one : H) where
-  finished : (place : ℕ) (port after : P) (w : Writing P) → HasBegun home state plan one place port
-      → WriterGoes home state (first_writing plan place port) w → HasEnded w after → HasFinished home state plan one place after
+module _ {P H : Type 0} (home : P → H) (state : P → PortState) (plan : DrillPlan) (many : ℕ) (one : H) where
+  finished : (place : ℕ) (port after : P) (w : Writing P) → HasBegun home state plan many one place port
+      → WriterGoes home state (first_writing plan place port) w → HasEnded w after → HasFinished home state plan many one place after
   finished place port after w begins goes ended = record {
     its_home = ap home ended.its_port ∙ goes.its_home ∙ begins.its_home;
     port_is =
-        subst (λ p. IsDrillPort (suc place) plan.writers (state p)) (sym ended.its_port)
-        (port-goes (suc place) plan.writers (state port) (state w.port) begins.port_is goes.goes_on);
+        subst (λ p. IsDrillPort (suc place) many (state p)) (sym ended.its_port)
+        (port-goes (suc place) many (state port) (state w.port) begins.port_is goes.goes_on);
+    no_search = subst (λ p. OpenedNone (state p)) (sym ended.its_port) (goes.no_search begins.no_search);
     written =
         ap (λ p. own_operations (state p)) ended.its_port
         ∙ sym (append-nil (own_operations (state w.port)))
@@ -57,9 +58,9 @@ module _ {P H : Type 0} (home : P → H) (state : P → PortState) (plan : Drill
         ∙ done_is plan place;
   }
 
-  pub each_finished : (place : ℕ) (ports after : List P) (writings : List (Writing P)) → EachAt (HasBegun home state plan one) place ports
+  pub each_finished : (place : ℕ) (ports after : List P) (writings : List (Writing P)) → EachAt (HasBegun home state plan many one) place ports
       → AllZip (WriterGoes home state) (writings_from plan place ports) writings → AllZip HasEnded writings after
-      → EachAt (HasFinished home state plan one) place after
+      → EachAt (HasFinished home state plan many one) place after
   each_finished place [] [] [] begins goes ended = tt
   each_finished place [] (p ∷ after) [] begins goes ended = absurd ended
   each_finished place [] after (w ∷ writings) begins goes ended = absurd goes

@@ -1,11 +1,25 @@
 -- The half of a consumer that hands messages out, as it goes on.
-use Rattle.std.proofs.Common.{◌≡◌, ℕ, List, refl, sym, ◌∙◌, subst}
+use Rattle.std.proofs.Common.{◌≡◌, ◌≢◌, ℕ, List, refl, sym, ◌∙◌, subst}
 use Rattle.sync_provider.specs.Ports.{PortState}
 use Rattle.sync_drill.specs.Handing.{IsHanding, MayOpen}
 use Rattle.sync_drill.specs.Halves.{HandingGoes, HandsOut}
 use Rattle.sync_drill.specs.declared.handing_out.HandingOut.{HandingOut}
+use Rattle.sync_drill.specs.declared.handing_out.Step.{Step}
+use Rattle.sync_drill.specs.declared.handing_out.Step.TheVariants as steps
 use Rattle.sync_drill.proofs.Going.{goes-twice, stays}
 use Rattle.sync_drill.proofs.Rings.{producer-twice, same-producer}
+
+-- a step that was made or that waits has not failed
+pub offered_fine : (step : Step) → step ≡ steps.Offered → step ≢ steps.Failed
+offered_fine step is = λ failed. cc
+
+-- so has one for which the ring is full
+pub full_fine : (step : Step) → step ≡ steps.Full → step ≢ steps.Failed
+full_fine step is = λ failed. cc
+
+-- and one for which nothing is pending
+pub nothing_fine : (step : Step) → step ≡ steps.Nothing → step ≢ steps.Failed
+nothing_fine step is = λ failed. cc
 
 -- of equal values
 pub handing-as : (consumer others search number : ℕ) (p q : PortState) (items more : List (List ℕ)) → others ≡ consumer → number ≡ search

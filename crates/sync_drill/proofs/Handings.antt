@@ -1,13 +1,14 @@
 -- A consumer's port: what was offered for it stays what its searches handed out, as entries of
 -- other ports come in, as a message is handed out, and as a search is opened and ended.
-use Rattle.std.proofs.Common.{◌≡◌, ◌≢◌, ℕ, zero, suc, ◌+◌, ◌≤◌, ◌==◌, nat_eq, Bool, true, false, cond, ◌&&◌, ◌||◌, List, [], ◌∷◌, ◌++◌, map, take, drop, length, Option, Some, None, option_map, refl, sym, ap, ◌∙◌, subst, arith, append_assoc, append-nil}
+use Rattle.std.proofs.Common.{◌≡◌, ◌≢◌, ℕ, zero, suc, ◌+◌, ◌-◌, ◌≤◌, ◌==◌, nat_eq, Bool, true, false, cond, ◌&&◌, ◌||◌, List, [], ◌∷◌, ◌++◌, map, take, drop, length, Option, Some, None, option_map, refl, sym, ap, ◌∙◌, subst, arith, append_assoc, append-nil}
 use Rattle.std.specs.List.{All}
 use Rattle.std.proofs.lemmas.Bool.{false≢true, eq-eqb}
 use Rattle.std.proofs.lemmas.List.{map-append}
 use Rattle.sync_model.specs.Message.{SyncMessage}
 use Rattle.sync_provider.specs.Law.{is_too_much}
 use Rattle.sync_provider.specs.Opened.{SearchOpening, bare_search}
-use Rattle.sync_provider.specs.Ports.{Journal, PortState, FollowedSearch, followed_after, noted, noted_all, opened_in, handed_in, ended_in, stream_in, IsLater}
+use Rattle.sync_provider.specs.Ports.{Journal, PortState, FollowedSearch, followed_after, noted, noted_all, opened_in, handed_in, end_of, ended_in, stream_in, IsLater}
+use Rattle.sync_provider.specs.Search.{busy_end}
 use Rattle.sync_provider.specs.declared.journal_note.ClosedSearch.{ClosedSearch}
 use Rattle.sync_provider.specs.declared.journal_note.JournalNote.{JournalNote}
 use Rattle.sync_provider.specs.declared.journal_note.JournalNote.TheVariants.{Wrote, Opened, Closed}
@@ -205,6 +206,17 @@ one_left zero (first ∷ stream) message rest is = omega arith
 one_left (suc n) [] message rest is = absurd (nil-cons message rest is)
 one_left (suc n) (first ∷ stream) message rest is = let low : suc n ≤ length stream = one_left n stream message rest is in omega (arith, low)
 
+-- how many messages a search handed out that is dropped, whether a write was too much for it or not
+dropped-count : (over : Bool) (handed : ℕ) → count_of (cond over (Some handed) None) handed ≡ handed
+dropped-count true handed = refl
+dropped-count false handed = refl
+
+dropped-handed : (over : Bool) (handed : ℕ) (stream : List SyncMessage) → handed_of (cond over (Some handed) None) handed stream ≡ take handed stream
+dropped-handed true handed stream =
+    let none : handed - handed ≡ 0 = omega arith in
+    ap (λ n. take handed stream ++ take n (busy_end ∷ [])) none ∙ append-nil (take handed stream)
+dropped-handed false handed stream = refl
+
 module _ (consumer search : ℕ) (p : PortState) (items : List (List ℕ)) (h : IsHanding consumer search p items) where
   -- the search that it follows
   abbrev pub followed_now : FollowedSearch
@@ -284,13 +296,16 @@ module _ (consumer search : ℕ) (p : PortState) (items : List (List ℕ)) (h : 
     busy = subst (AllEndBusy consumer p.directory) (sym (its_notes end)) (busy-append consumer p.directory h.ended h.opening end h.busy one);
   }
 
-  -- a search that was not too slow is dropped: what it handed out was offered
-  pub resting-dropped : (end : ClosedSearch) → end.number ≡ search → end.handed ≡ h.handed → end.over ≡ None
-      → IsResting (ended_in p search end) items
-  resting-dropped end same count in_time =
-      resting-ended end items same
-      (subst (λ over. count_of over end.handed ≤ length stream) (sym in_time) (subst (λ n. n ≤ length stream) (sym count) h.within))
-      (h.offered_is
-      ∙ ap (λ messages. map encoded (delivered p.directory h.ended ++ messages))
-      (sym (ap (λ over. map (λ message. (h.opening.id, message)) (handed_of over end.handed stream)) in_time
-      ∙ (λ i. map (λ message. (h.asked.id i, message)) (take (count i) stream)))))
+  -- it is dropped: what it handed out was offered
+  pub resting-dropped : IsResting (ended_in p search (end_of search h.handed followed_now)) items
+  resting-dropped =
+      resting-ended end items refl (subst (λ n. n ≤ length stream) (sym (dropped-count h.over h.handed)) h.within)
+      (h.offered_is ∙ ap (λ messages. map encoded (delivered p.directory h.ended ++ messages)) (sym handed_now))
+    where
+      end : ClosedSearch
+      end = end_of search h.handed followed_now
+
+      handed_now : handed_by p.directory h.opening end ≡ numbered (take h.handed stream)
+      handed_now =
+          ap (map (λ message. (h.opening.id, message))) (dropped-handed h.over h.handed stream)
+          ∙ (λ i. map (λ message. (h.asked.id i, message)) (take h.handed stream))

@@ -8,6 +8,11 @@ pub accepts : {X : Type 0} (P : X → Type 0) (xs : List X) → All P xs
     → (i : ℕ) (x : X) → i < length xs → x ≡ slice_index_or xs i x → P x
 accepts P xs all i x low is = subst P (sym is) (all i x low)
 
+-- each may be done, and this holds beside it
+pub accepts_beside : {X : Type 0} (P : X → Type 0) (B : Type 0) (xs : List X) → All P xs → B
+    → (i : ℕ) (x : X) → i < length xs → x ≡ slice_index_or xs i x → P x × B
+accepts_beside P B xs all beside i x low is = (accepts P xs all i x low is, beside)
+
 -- what came of the item at a place
 pub record IsGiven {X Y : Type 0} (R : X → Y → Type 0) (xs : List X) (i : ℕ) (y : Y) : Type 0 where
   pub job : X

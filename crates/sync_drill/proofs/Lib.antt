@@ -25,3 +25,17 @@ pub mod Rings
 pub mod HandingSteps
 pub mod Made
 pub mod TakingSteps
+pub mod Places
+pub mod Unused
+pub mod Droppings
+pub mod LeftInRing
+pub mod FollowingSteps
+pub mod Settlings
+pub mod Summings
+pub mod Requested
+pub mod NoMore
+pub mod ConsumerLeft
+pub mod DrillLeft
+pub mod Worked
+pub mod Ends
+pub mod Sent

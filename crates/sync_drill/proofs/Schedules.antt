@@ -1,8 +1,8 @@
 -- The writes of a journal whose entries are of the writers' ports are a schedule of the plan.
-use Rattle.std.proofs.Common.{◌≡◌, ◌≢◌, ℕ, zero, suc, pred, ◌<◌, ◌≤◌, ◌==◌, Bool, true, false, not, if◌then◌else◌, List, [], ◌∷◌, ◌++◌, Option, Some, None, refl, sym, ap, ◌∙◌, subst, arith, eqb-true}
+use Rattle.std.proofs.Common.{◌≡◌, ◌≢◌, ℕ, zero, suc, pred, ◌<◌, ◌≤◌, ◌==◌, leb, Bool, true, false, not, if◌then◌else◌, List, [], ◌∷◌, ◌++◌, Option, Some, None, refl, sym, ap, ◌∙◌, subst, arith, eqb-true}
 use Rattle.std.specs.List.{All}
 use Rattle.std.specs.Option.{option_or}
-use Rattle.std.proofs.lemmas.Bool.{or_right, eq-eqb, ne_eqb, eqb-false}
+use Rattle.std.proofs.lemmas.Bool.{or_right, eq-eqb, ne_eqb, eqb-false, leb-false, leb-true}
 use Rattle.ldap_constants.specs.declared.result_codes.TheConstants.{NO_SUCH_OBJECT, ENTRY_ALREADY_EXISTS}
 use Rattle.schema_rules.specs.Attributes.{entry_code, weight_of}
 use Rattle.dn_names.specs.Names.{is_at_or_below}
@@ -22,6 +22,7 @@ use Rattle.drill_plan.specs.Schedule.{NumberedWrites, writes_of, operations_by}
 use Rattle.sync_drill.specs.Journals.{notes_of, operations_in}
 use Rattle.sync_drill.specs.Drilled.{done_by}
 use Rattle.sync_drill.proofs.Lists.{nil-cons, same_head, same_tail}
+use Rattle.sync_drill.proofs.NoMore.{fewer}
 use Rattle.sync_drill.proofs.Notes.{is_another, is_itself}
 
 -- ---- the writes of a journal by the places of their writers
@@ -87,19 +88,32 @@ low_place : (number writers : ℕ) → 1 ≤ number → number ≤ writers → p
 low_place zero writers some low = absurd (omega (arith, some))
 low_place (suc number) writers some low = omega (arith, low)
 
--- each write is of one of the writers
-pub are_of : (writers : ℕ) (journal : Journal) → All (λ e. (1 ≤ e.1) × (e.1 ≤ writers)) journal → AreOf writers (numbered journal)
-are_of writers [] by = tt
-are_of writers (e ∷ journal) by =
-    with_note (are_of writers journal (λ k d low. by (suc k) d (omega (arith, low)))) e.0
+-- where the ports after the writers' write nothing, each write is of one of the writers
+pub are_of : (writers ports : ℕ) (journal : Journal) → All (λ e. (1 ≤ e.1) × (e.1 ≤ ports)) journal
+    → ((k : ℕ) → writers < k → k ≤ ports → operations_in (notes_of k journal) ≡ []) → AreOf writers (numbered journal)
+are_of writers ports [] by silent = tt
+are_of writers ports (e ∷ journal) by silent =
+    with_note
+    (are_of writers ports journal (λ k d low. by (suc k) d (omega (arith, low)))
+    (λ k low high. fewer e.0 (notes_of k journal) (e.1 == k) (silent k low high))) e.0 refl
   where
-    here : (1 ≤ e.1) × (e.1 ≤ writers)
+    here : (1 ≤ e.1) × (e.1 ≤ ports)
     here = by 0 e (omega arith)
 
-    with_note : AreOf writers (numbered journal) → (note : JournalNote) → AreOf writers (tagged e.1 note ++ numbered journal)
-    with_note rest (Wrote write) = (low_place e.1 writers here.0 here.1, rest)
-    with_note rest (Opened opening) = rest
-    with_note rest (Closed end) = rest
+    -- its number is low, as it wrote
+    low_number : (write : Write) → e.0 ≡ Wrote write → (b : Bool) → leb e.1 writers ≡ b → e.1 ≤ writers
+    low_number write is true low = leb-true e.1 writers low
+    low_number write is false high =
+        absurd
+        (nil-cons write.op (operations_in (notes_of e.1 journal))
+        (ap (λ note. operations_in (note ∷ notes_of e.1 journal)) (sym is)
+        ∙ sym (ap (λ b. operations_in (if b then e.0 ∷ notes_of e.1 journal else notes_of e.1 journal)) (is_itself e.1))
+        ∙ silent e.1 (leb-false e.1 writers high) here.1))
+
+    with_note : AreOf writers (numbered journal) → (note : JournalNote) → e.0 ≡ note → AreOf writers (tagged e.1 note ++ numbered journal)
+    with_note rest (Wrote write) is = (low_place e.1 writers here.0 (low_number write is (leb e.1 writers) refl), rest)
+    with_note rest (Opened opening) is = rest
+    with_note rest (Closed end) is = rest
 
 -- ---- the first write adds the suffix, since nothing else is accepted where no entry is
 

@@ -11,7 +11,7 @@ use Rattle.sync_provider.specs.Ports.{IsLater, IsReplied, PortState, WriteReplie
 use Rattle.sync_provider.specs.declared.journal_note.JournalNote.{JournalNote}
 use Rattle.sync_provider.specs.declared.journal_note.JournalNote.TheVariants.{Wrote, Opened, Closed}
 use Rattle.sync_provider.specs.declared.writing.Reply.{Reply}
-use Rattle.sync_drill.specs.Journals.{notes_of, operations_in, own_operations}
+use Rattle.sync_drill.specs.Journals.{AreWrites, OpenedNone, notes_of, operations_in, own_operations}
 use Rattle.sync_drill.specs.Going.{HasGoneOn}
 use Rattle.sync_drill.proofs.Going.{goes-twice, later-goes, own-goes, stays}
 use Rattle.sync_drill.proofs.Notes.{later-own, own_notes}
@@ -30,6 +30,13 @@ later-operations old new later = ap operations_in (later-own old new later)
 own_after : (p : PortState) (write : Write) → own_operations (noted p (Wrote write) p.number) ≡ own_operations p ++ write.op ∷ []
 own_after p write =
     ap operations_in (own_notes p (Wrote write)) ∙ operations-append (notes_of p.number p.journal) (Wrote write ∷ [])
+
+-- one write more
+write_more : (notes : List JournalNote) (write : Write) → AreWrites notes → AreWrites (notes ++ Wrote write ∷ [])
+write_more [] write all = tt
+write_more (Wrote first ∷ notes) write all = write_more notes write all
+write_more (Opened opening ∷ notes) write all = absurd all
+write_more (Closed end ∷ notes) write all = absurd all
 
 module _ (op : Op) (now : ℕ) (reply : Reply) (old new : PortState) (replied : IsReplied old (λ p. WriteReplies p op now reply new)) where
   abbrev place : PortState
@@ -52,6 +59,23 @@ module _ (op : Op) (now : ℕ) (reply : Reply) (old new : PortState) (replied : 
       by : (b : Bool) → nat_eq reply.code OTHER ≡ b → HasGoneOn place new
       by true is = subst (HasGoneOn place) (sym (replied.replies.err (eqb-true reply.code OTHER is))) (stays place)
       by false is = goes outcome (replied.replies.state (eqb-false reply.code OTHER is))
+
+  -- a port that opened no search opened none
+  pub none_opened : OpenedNone old → OpenedNone new
+  none_opened none = by (nat_eq reply.code OTHER) refl
+    where
+      here : OpenedNone place
+      here = subst AreWrites (sym (later-own old place replied.later)) none
+
+      after : (r : Result Write ℕ) → new ≡ wrote_in place r → OpenedNone new
+      after (Ok write) is =
+          subst OpenedNone (sym is)
+          (subst AreWrites (sym (own_notes place (Wrote write))) (write_more (notes_of place.number place.journal) write here))
+      after (Err code) is = subst OpenedNone (sym is) here
+
+      by : (b : Bool) → nat_eq reply.code OTHER ≡ b → OpenedNone new
+      by true is = subst OpenedNone (sym (replied.replies.err (eqb-true reply.code OTHER is))) here
+      by false is = after outcome (replied.replies.state (eqb-false reply.code OTHER is))
 
   -- with success it was written
   pub written : reply.code ≡ SUCCESS → own_operations new ≡ own_operations old ++ op ∷ []

@@ -18,6 +18,17 @@ operations_in (Wrote write ∷ notes) = write.op ∷ operations_in notes
 operations_in (Opened opening ∷ notes) = operations_in notes
 operations_in (Closed end ∷ notes) = operations_in notes
 
+-- these are writes alone
+abbrev pub AreWrites : List JournalNote → Type 0
+AreWrites [] = Unit {0}
+AreWrites (Wrote write ∷ notes) = AreWrites notes
+AreWrites (Opened opening ∷ notes) = ⊥
+AreWrites (Closed end ∷ notes) = ⊥
+
+-- the port opened no search
+abbrev pub OpenedNone : PortState → Type 0
+OpenedNone port = AreWrites (notes_of port.number port.journal)
+
 -- what the port wrote
 abbrev pub own_operations : PortState → List Op
 own_operations port = operations_in (notes_of port.number port.journal)

@@ -6,3 +6,6 @@ pub mod Writers
 pub mod Delivered
 pub mod Handing
 pub mod Halves
+pub mod Following
+pub mod Summing
+pub mod Followed

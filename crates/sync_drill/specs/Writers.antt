@@ -7,7 +7,7 @@ use Rattle.drill_plan.specs.Operations.{WriterState, add_suffix, add_unit, first
 use Rattle.sync_drill.specs.declared.writing.Writing.{Writing}
 use Rattle.sync_drill.specs.Drilled.{done_by}
 use Rattle.sync_drill.specs.Going.{HasGoneOn, IsDrillPort}
-use Rattle.sync_drill.specs.Journals.{own_operations}
+use Rattle.sync_drill.specs.Journals.{OpenedNone, own_operations}
 
 -- what each writer's port wrote before its thread
 abbrev pub begun : (writer : ℕ) → List Op
@@ -43,6 +43,7 @@ pub record WriterGoes {P H : Type 0} (home : P → H) (state : P → PortState) 
     : Type 0 where
   pub its_home : home new.port ≡ home old.port
   pub goes_on : HasGoneOn (state old.port) (state new.port)
+  pub no_search : OpenedNone (state old.port) → OpenedNone (state new.port)
   pub written : own_operations (state new.port) ++ planned new.needs_unit new.left new.writer
       ≡ own_operations (state old.port) ++ planned old.needs_unit old.left old.writer
 
@@ -52,19 +53,22 @@ pub record HasEnded {P : Type 0} (w : Writing P) (port : P) : Type 0 where
   pub none_left : w.left ≡ 0
   pub unit : w.needs_unit ≡ false
 
--- ---- the ports, of one directory that has as many as the plan has writers
+-- ---- the ports, of one directory that has this many
 
-module _ {P H : Type 0} (home : P → H) (state : P → PortState) (plan : DrillPlan) (one : H) where
+module _ {P H : Type 0} (home : P → H) (state : P → PortState) (plan : DrillPlan) (many : ℕ)
+    (one : H) where
   -- before the threads
   pub record HasBegun (writer : ℕ) (port : P) : Type 0 where
     pub its_home : home port ≡ one
-    pub port_is : IsDrillPort (suc writer) plan.writers (state port)
+    pub port_is : IsDrillPort (suc writer) many (state port)
+    pub no_search : OpenedNone (state port)
     pub written : own_operations (state port) ≡ begun writer
 
   -- after them
   pub record HasFinished (writer : ℕ) (port : P) : Type 0 where
     pub its_home : home port ≡ one
-    pub port_is : IsDrillPort (suc writer) plan.writers (state port)
+    pub port_is : IsDrillPort (suc writer) many (state port)
+    pub no_search : OpenedNone (state port)
     pub written : own_operations (state port) ≡ done_by plan writer
 
 -- these ports are the first one, at which the first operation was done, and the others as before
@@ -74,4 +78,5 @@ pub record AreBegunFrom {P H : Type 0} (home : P → H) (state : P → PortState
   pub are : ports ≡ writing ∷ others
   pub its_home : home writing ≡ home first
   pub goes_on : HasGoneOn (state first) (state writing)
+  pub no_search : OpenedNone (state first) → OpenedNone (state writing)
   pub written : own_operations (state writing) ≡ own_operations (state first) ++ add_suffix ∷ []

@@ -5,7 +5,7 @@ ghost use Rattle.link_rings.specs.Ends.{offered, known_slots, IsSameProducer};
 ghost use Rattle.sync_messages.specs.Request.{request_of};
 ghost use Rattle.sync_messages.specs.declared.request.Mode.TheVariants.{RefreshAndPersist};
 ghost use Rattle.sync_drill.specs.Going.{HasGoneOn};
-ghost use Rattle.sync_drill.specs.Handing.{IsAsked, IsDone, IsHanding, MayOpen};
+ghost use Rattle.sync_drill.specs.Handing.{IsAsked, IsDone, IsHanding, IsResting, MayOpen};
 ghost use Rattle.sync_drill.specs.Halves.{HandingGoes};
 
 use crate::events::{DrillEvents, RingEvents};
@@ -109,6 +109,8 @@ impl<P: Port> HandingOut<P> {
             self.new.consumer self.new.search (P.state self.new.port) (offered self.new.producer) }
         ensures nothing { result ≡ Step.Nothing → IsDone
             self.new.consumer self.new.search (P.state self.new.port) (offered self.new.producer) }
+        ensures still { result ≡ Step.Nothing
+            → offered self.new.producer ≡ offered self.old.producer }
     {
         if !self.producer.has_room() {
             return Step::Full;
@@ -136,6 +138,8 @@ impl<P: Port> HandingOut<P> {
             self.new.consumer self.new.search (P.state self.new.port) (offered self.new.producer)) }
         ensures nothing { IfOk result (λ more. more ≡ false → IsDone
             self.new.consumer self.new.search (P.state self.new.port) (offered self.new.producer)) }
+        ensures still { IfOk result (λ more. more ≡ false
+            → offered self.new.producer ≡ offered self.old.producer) }
     {
         match self.port.hand_out(self.search) {
             Handed::Message(message) => {
@@ -169,6 +173,19 @@ impl<P: Port> HandingOut<P> {
             Ok(()) => Ok(()),
             Err(Full(_)) => unreachable!(),
         }
+    }
+
+    /// Ends its search.
+    pub(crate) fn close(&mut self)
+        requires { IsHanding self.old.consumer self.old.search (P.state self.old.port)
+            (offered self.old.producer) }
+        ensures home { P.home self.new.port ≡ P.home self.old.port }
+        ensures goes_on { HasGoneOn (P.state self.old.port) (P.state self.new.port) }
+        ensures resting { IsResting (P.state self.new.port) (offered self.new.producer) }
+        ensures same { (self.new.producer ≡ self.old.producer)
+            × (self.new.consumer ≡ self.old.consumer) × (self.new.failed ≡ self.old.failed) }
+    {
+        let _ = self.port.drop_search(self.search);
     }
 
     /// Opens a search again, without a cookie: all of its content is sent anew.

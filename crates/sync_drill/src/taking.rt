@@ -1,7 +1,7 @@
 //! The thread that takes messages from a consumer's ring into its copy.
 ghost use Rattle.std.specs.Prelude.{◌≡◌, ◌≢◌, ℕ, List, ◌∷◌, true, false, IfOk, OnOk};
 ghost use mathlib.Core.List.{IsPrefix};
-ghost use Rattle.link_rings.specs.Ends.{taken, known_items, IsSameConsumer};
+ghost use Rattle.link_rings.specs.Ends.{taken, known_items};
 ghost use Rattle.sync_drill.specs.Delivered.{with_search, IsReadFrom, TakesItem};
 ghost use Rattle.sync_drill.specs.Handing.{HasTaken, TakesKnown};
 ghost use Rattle.sync_drill.specs.Halves.{TakingGoes};
@@ -98,8 +98,7 @@ impl Taking {
     /// Takes the next message, where memory does not run out.
     pub(crate) fn take_one(&mut self) -> Result<(), NoMemory>
         requires { HasTaken self.old.consumer self.old.copy (taken self.old.end) }
-        ensures consumer { self.new.consumer ≡ self.old.consumer }
-        ensures ring { IsSameConsumer self.old.end self.new.end }
+        ensures goes { TakingGoes self.old self.new }
         ensures copy { OnOk result
             (HasTaken self.new.consumer self.new.copy (taken self.new.end)) }
         ensures known { (item : List ℕ) (rest : List (List ℕ))

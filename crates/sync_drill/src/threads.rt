@@ -3,6 +3,7 @@ ghost use Rattle.std.specs.Prelude.{◌≤◌, ◌≡◌, length, All, IfOk};
 ghost use Rattle.std.specs.List.{AllZip};
 ghost use Rattle.sync_drill.specs.Writers.{first_writing, writings_from, HasEnded, MayWrite, WriterGoes};
 
+use crate::events::DrillEvents;
 use crate::writing::Writing;
 use drill_plan::{DrillPlan, DrillWriter};
 use ldap_ber::NoMemory;
@@ -44,6 +45,7 @@ fn writing_of<P: Port>(alloc: Global, plan: &DrillPlan, place: u32, port: P) -> 
 /// waits for all of them. It is `NoMemory` where memory runs out.
 pub(crate) fn write_each<R: Threads + Sync, P: Port + Send>(
     rt: &R,
+    events: &DrillEvents,
     writings: Vec<Writing<P>>,
 ) -> Result<Vec<Writing<P>>, NoMemory>
     requires { All MayWrite writings.items }
@@ -53,7 +55,7 @@ pub(crate) fn write_each<R: Threads + Sync, P: Port + Send>(
     let work = |writing: Writing<P>| -> Writing<P>
         requires { MayWrite writing }
         ensures { WriterGoes P.home P.state writing result }
-    { writing.work() };
+    { writing.work(events) };
     map_vec(rt, writings, &work)
 }
 

@@ -1,10 +1,11 @@
 //! The thread of a writer.
 ghost use Rattle.std.specs.Prelude.{◌≡◌, ◌+◌, ◌++◌, ◌<◌, ◌^◌, [], ◌∷◌, true, false, OnOk, OnErr};
 ghost use Rattle.entry_tree.specs.Sound.{is_commit, is_sound_op};
-ghost use Rattle.sync_drill.specs.Journals.{own_operations};
+ghost use Rattle.sync_drill.specs.Journals.{OpenedNone, own_operations};
 ghost use Rattle.sync_drill.specs.Going.{HasGoneOn};
 ghost use Rattle.sync_drill.specs.Writers.{MayWrite, WriterGoes};
 
+use crate::events::DrillEvents;
 use drill_plan::DrillWriter;
 use entry_tree::Op;
 use ldap_ber::NoMemory;
@@ -27,28 +28,30 @@ pub(crate) struct Writing<P> {
 
 impl<P: Port> Writing<P> {
     /// Does all that is left. Less is done where memory runs out.
-    pub(crate) fn work(self) -> Writing<P>
+    pub(crate) fn work(self, events: &DrillEvents) -> Writing<P>
         requires { MayWrite self }
         ensures { WriterGoes P.home P.state self result }
     {
         let mut writing = self;
-        writing.write_all();
+        events.begin_writing();
+        writing.write_all(events);
+        events.end_writing();
         writing
     }
 
     /// Does all that is left, the unit first.
-    fn write_all(&mut self)
+    fn write_all(&mut self, events: &DrillEvents)
         requires { MayWrite self.old }
         ensures { WriterGoes P.home P.state self.old self.new }
     {
-        match self.write_unit() {
-            Ok(()) => self.write_each(),
+        match self.write_unit(events) {
+            Ok(()) => self.write_each(events),
             Err(_) => {}
         }
     }
 
     /// Adds the unit, where it is not there.
-    fn write_unit(&mut self) -> Result<(), NoMemory>
+    fn write_unit(&mut self, events: &DrillEvents) -> Result<(), NoMemory>
         requires { self.old.writer.writer < 8 }
         ensures goes { WriterGoes P.home P.state self.old self.new }
         ensures same { (self.new.writer ≡ self.old.writer) × (self.new.left ≡ self.old.left) }
@@ -60,11 +63,12 @@ impl<P: Port> Writing<P> {
         let op = self.writer.unit_operation()?;
         write_one(&mut self.port, op)?;
         self.needs_unit = false;
+        events.written.advance();
         Ok(())
     }
 
     /// Does the operations below the unit.
-    fn write_each(&mut self)
+    fn write_each(&mut self, events: &DrillEvents)
         requires unit { self.old.needs_unit ≡ false }
         requires writer { self.old.writer.writer < 8 }
         requires steps { self.old.writer.step + self.old.left < 2 ^ 16 }
@@ -72,7 +76,7 @@ impl<P: Port> Writing<P> {
     {
         'operations: while self.left > 0 {
             match self.write_next() {
-                Ok(()) => {}
+                Ok(()) => events.written.advance(),
                 Err(_) => return,
             }
         }
@@ -104,6 +108,7 @@ pub(crate) fn write_one<P: Port>(port: &mut P, op: Op) -> Result<(), NoMemory>
     requires { (is_sound_op op ≡ true) × (is_commit op ≡ false) }
     ensures home { P.home port.new ≡ P.home port.old }
     ensures goes_on { HasGoneOn (P.state port.old) (P.state port.new) }
+    ensures no_search { OpenedNone (P.state port.old) → OpenedNone (P.state port.new) }
     ensures ok { OnOk result (own_operations (P.state port.new)
         ≡ own_operations (P.state port.old) ++ op ∷ []) }
     ensures err { OnErr result (own_operations (P.state port.new)

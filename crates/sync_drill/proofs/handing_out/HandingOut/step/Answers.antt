@@ -1,4 +1,4 @@
-use Rattle.std.proofs.Common.{true, false, refl, sym, subst}
+use Rattle.std.proofs.Common.{refl, sym, ◌∙◌, subst}
 use Rattle.std.proofs.lemmas.Bool.{false≢true}
 use Rattle.sync_drill.specs.Handing.{IsHanding}
 use Rattle.sync_drill.proofs.Going.{stays}
@@ -43,6 +43,9 @@ returns-in-Ok-clause-goes g c =
 
 pub returns-in-Ok-clause-nothing : goal.returns-in-Ok-clause-nothing
 returns-in-Ok-clause-nothing g c = λ nothing. c.in-Ok.ensures.nothing (c.step_of.ensures.nothing nothing)
+
+pub returns-in-Ok-clause-still : goal.returns-in-Ok-clause-still
+returns-in-Ok-clause-still g c = λ nothing. c.in-Ok.ensures.still (c.step_of.ensures.nothing nothing) ∙ c.has_room.ensures.offered
 
 pub returns-in-Err-clause-goes : goal.returns-in-Err-clause-goes
 returns-in-Err-clause-goes g c =

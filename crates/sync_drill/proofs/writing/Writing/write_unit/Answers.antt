@@ -12,11 +12,11 @@ pub returns-in_err-write_one-clause-goes : goal.returns-in_err-write_one-clause-
 returns-in_err-write_one-clause-goes g c =
     let old = c.args.self.now in
     writer-same g.P.Port.home g.P.Port.state old (record old { port = c.write_one.new.port })
-    c.write_one.ensures.home c.write_one.ensures.goes_on c.in_err-write_one.ensures.err refl refl refl
+    c.write_one.ensures.home c.write_one.ensures.goes_on c.write_one.ensures.no_search c.in_err-write_one.ensures.err refl refl refl
 
 pub returns-clause-goes : goal.returns-clause-goes
 returns-clause-goes g c =
     let old = c.args.self.now in
     writer-unit g.P.Port.home g.P.Port.state old (record old { port = c.write_one.new.port; needs_unit = false })
-    c.in_ok-op.op c.write_one.ensures.home c.write_one.ensures.goes_on c.in_ok-write_one.ensures.ok c.in_ok-op.ensures.op
+    c.in_ok-op.op c.write_one.ensures.home c.write_one.ensures.goes_on c.write_one.ensures.no_search c.in_ok-write_one.ensures.ok c.in_ok-op.ensures.op
     c.if-not-self.false refl refl refl
