@@ -7,7 +7,6 @@ use ldap_ber::{
 };
 use std::alloc::Global;
 use std::process::Abort;
-use std::test::Fail;
 
 // What these calls answer is compared when the tests run: the proofs of the tests know nothing of
 // it.
@@ -49,13 +48,12 @@ const INTEGERS: [(&[u8], i64); 8] = [
 ];
 
 #[test]
-fn integers_both_ways(rt: HostRuntime) -> Result<(), Fail> {
+fn integers_both_ways(rt: HostRuntime) {
     for (spelling, value) in &INTEGERS {
         assert_same_of(&rt, spelling, &reader_of(spelling).integer(2), &Ok(*value));
-        let written = with_integer(rt.alloc(), *value)?;
+        let written = with_integer(rt.alloc(), *value).expect(&rt, "memory");
         assert_same_of(&rt, spelling, &written.as_slice(), spelling);
     }
-    Ok(())
 }
 
 /// Spellings of integers that are read and never written.
@@ -116,13 +114,12 @@ const OCTETS: [(&[u8], u8, &[u8]); 4] = [
 ];
 
 #[test]
-fn octets_both_ways(rt: HostRuntime) -> Result<(), Fail> {
+fn octets_both_ways(rt: HostRuntime) {
     for (spelling, tag, body) in &OCTETS {
         assert_same_of(&rt, spelling, &reader_of(spelling).octets(*tag), &Ok(*body));
-        let written = with_octets(rt.alloc(), *tag, body)?;
+        let written = with_octets(rt.alloc(), *tag, body).expect(&rt, "memory");
         assert_same_of(&rt, spelling, &written.as_slice(), spelling);
     }
-    Ok(())
 }
 
 /// Octet strings: no octet, some that are no text, a URI, as many octets as a string keeps in
@@ -142,32 +139,36 @@ const STRINGS: [&[u8]; 9] = [
       mnopqrstuvwxyzabcdefghijklmnopqrstuvwxyzabcdefghijklmnopqrstuvwx",
 ];
 
-#[test]
-fn copies_of_octets(rt: HostRuntime) -> Result<(), Fail> {
-    let mut list = OctetsList::new(rt.alloc());
+/// Copies of copies of the strings, after those are dropped.
+fn copies(alloc: Global) -> Result<OctetsList, NoMemory> {
+    let mut list = OctetsList::new(alloc);
     for bytes in &STRINGS {
-        list.push(Octets::from_slice(rt.alloc(), bytes)?.copy()?)?;
+        list.push(Octets::from_slice(alloc, bytes)?.copy()?)?;
     }
-    let copies = list.copy()?.copy()?;
+    let copies = list.copy()?.copy();
     discard(list);
+    copies
+}
+
+#[test]
+fn copies_of_octets(rt: HostRuntime) {
+    let copies = copies(rt.alloc()).expect(&rt, "memory");
     assert_same(&rt, "strings", &copies.list().len(), &STRINGS.len());
     for (copy, bytes) in copies.list().iter().zip(&STRINGS) {
         assert_same_of(&rt, bytes, &copy.as_slice(), bytes);
     }
-    Ok(())
 }
 
 /// X.690, 8.2.2 and 11.1
 const TRUTHS: [(&[u8], bool); 2] = [(b"\x01\x01\xff", true), (b"\x01\x01\0", false)];
 
 #[test]
-fn truth_values_both_ways(rt: HostRuntime) -> Result<(), Fail> {
+fn truth_values_both_ways(rt: HostRuntime) {
     for (spelling, value) in &TRUTHS {
         assert_same_of(&rt, spelling, &reader_of(spelling).boolean(1), &Ok(*value));
-        let written = with_boolean(rt.alloc(), *value)?;
+        let written = with_boolean(rt.alloc(), *value).expect(&rt, "memory");
         assert_same_of(&rt, spelling, &written.as_slice(), spelling);
     }
-    Ok(())
 }
 
 /// Lengths of octet strings, and how these begin.
@@ -191,13 +192,12 @@ fn check_length(rt: &impl Abort, bytes: &[u8], header: &[u8], body: &[u8]) {
 }
 
 #[test]
-fn lengths_both_ways(rt: HostRuntime) -> Result<(), Fail> {
+fn lengths_both_ways(rt: HostRuntime) {
     for (count, header) in &LENGTHS {
-        let body = vec![in rt.alloc(); 7_u8; *count]?;
-        let written = with_octets(rt.alloc(), 4, &body)?;
+        let body = vec![in rt.alloc(); 7_u8; *count].expect(&rt, "memory");
+        let written = with_octets(rt.alloc(), 4, &body).expect(&rt, "memory");
         check_length(&rt, written.as_slice(), header, &body);
     }
-    Ok(())
 }
 
 /// The end of an LDAPResult (RFC 4511, section 4.1.9) with a referral, in its elements.
@@ -219,9 +219,9 @@ fn nested(alloc: Global) -> Result<Octets, NoMemory> {
 const NESTED: &[u8] = b"\x30\x1c\x0a\x01\x0a\xa3\x14\x04\x08ldap://a\x04\x08ldap://b\x02\x01\xff";
 
 #[test]
-fn elements_in_elements_are_written(rt: HostRuntime) -> Result<(), Fail> {
-    assert_same_of(&rt, NESTED, &nested(rt.alloc())?.as_slice(), &NESTED);
-    Ok(())
+fn elements_in_elements_are_written(rt: HostRuntime) {
+    let written = nested(rt.alloc()).expect(&rt, "memory");
+    assert_same_of(&rt, NESTED, &written.as_slice(), &NESTED);
 }
 
 fn in_one(alloc: Global, bytes: &[u8]) -> Result<Octets, NoMemory> {
@@ -281,16 +281,17 @@ fn check_start(rt: &impl Abort, bytes: &[u8], start: &[u8], body: &[u8]) {
 }
 
 #[test]
-fn lengths_of_elements_in_elements(rt: HostRuntime) -> Result<(), Fail> {
+fn lengths_of_elements_in_elements(rt: HostRuntime) {
     for (count, start) in &LENGTHS_IN_ONE {
-        let body = vec![in rt.alloc(); 7_u8; *count]?;
-        check_start(&rt, in_one(rt.alloc(), &body)?.as_slice(), start, &body);
+        let body = vec![in rt.alloc(); 7_u8; *count].expect(&rt, "memory");
+        let written = in_one(rt.alloc(), &body).expect(&rt, "memory");
+        check_start(&rt, written.as_slice(), start, &body);
     }
     for (count, start) in &LENGTHS_IN_FOUR {
-        let body = vec![in rt.alloc(); 7_u8; *count]?;
-        check_start(&rt, in_four(rt.alloc(), &body)?.as_slice(), start, &body);
+        let body = vec![in rt.alloc(); 7_u8; *count].expect(&rt, "memory");
+        let written = in_four(rt.alloc(), &body).expect(&rt, "memory");
+        check_start(&rt, written.as_slice(), start, &body);
     }
-    Ok(())
 }
 
 /// The list begins at 5 and ends at 27, and its second element is this.
@@ -317,10 +318,10 @@ fn check_inside(rt: &impl Abort, inner: &mut Reader) -> Result<(), BerFault> {
 }
 
 #[test]
-fn elements_in_elements_are_read(rt: HostRuntime) -> Result<(), Fail> {
-    let whole = reader_of(NESTED).expect(0x30)?;
+fn elements_in_elements_are_read(rt: HostRuntime) {
+    let whole = reader_of(NESTED).expect(0x30).expect(&rt, "a sequence");
     assert_same(&rt, "whole", &(whole.at, whole.stop), &(0, 30));
-    Ok(check_inside(&rt, &mut Reader::inside(&whole))?)
+    check_inside(&rt, &mut Reader::inside(&whole)).expect(&rt, "elements");
 }
 
 /// Bytes, and how many elements they are, whatever their tags: none, one with elements in it,
@@ -339,20 +340,19 @@ const COUNTED: [(&[u8], Result<usize, BerFault>); 4] = [
 ];
 
 #[test]
-fn elements_are_counted(rt: HostRuntime) -> Result<(), Fail> {
+fn elements_are_counted(rt: HostRuntime) {
     for (bytes, count) in &COUNTED {
         assert_same_of(&rt, bytes, &reader_of(bytes).count(), count);
     }
-    Ok(())
 }
 
 #[test]
-fn a_list_with_room_is_empty(rt: HostRuntime) -> Result<(), Fail> {
-    let mut list = OctetsList::with_room(rt.alloc(), STRINGS.len())?;
+fn a_list_with_room_is_empty(rt: HostRuntime) {
+    let mut list = OctetsList::with_room(rt.alloc(), STRINGS.len()).expect(&rt, "memory");
     assert_same(&rt, "before", &list.list().len(), &0);
-    list.push(Octets::from_slice(rt.alloc(), b"a")?)?;
+    let octets = Octets::from_slice(rt.alloc(), b"a").expect(&rt, "memory");
+    list.push(octets).expect(&rt, "memory");
     assert_same(&rt, "after", &list.list().len(), &1);
-    Ok(())
 }
 
 /// What a caller asks of the element after the first one in a sequence.

@@ -1,8 +1,8 @@
 //! Calls of a queue.
-use crate::rows::check_rows;
+use crate::rows::{check_rows, number, parted, push_answer, shown};
+use ldap_ber::discard;
 use persist_queues::{SearchQueue, Weighs};
 use std::alloc::{AllocError, Global};
-use std::test::Fail;
 
 /// Calls of a queue, and what comes of each.
 const ROWS: &str = "\
@@ -32,13 +32,13 @@ queue limit 2;push 1;push 2,3;pop;pop => set,pushed,the queue of 2 items is full
 ";
 
 #[test]
-fn calls_of_a_queue(rt: HostRuntime) -> Result<(), Fail> {
-    check_rows(&rt, rt.alloc(), ROWS)
+fn calls_of_a_queue(rt: HostRuntime) {
+    check_rows(&rt, rt.alloc(), ROWS);
 }
 
 #[test]
-fn a_full_queue_keeps_its_oldest_item(rt: HostRuntime) -> Result<(), Fail> {
-    check_rows(&rt, rt.alloc(), FULL)
+fn a_full_queue_keeps_its_oldest_item(rt: HostRuntime) {
+    check_rows(&rt, rt.alloc(), FULL);
 }
 
 /// An item that is nothing but its weight.
@@ -53,10 +53,6 @@ impl Weighs for Item {
     fn weight(&self) -> u64 {
         self.weight
     }
-}
-
-fn number(text: &str) -> u64 {
-    text.parse::<u64>().unwrap_or(0)
 }
 
 /// Items of these weights.
@@ -74,45 +70,46 @@ fn items(alloc: Global, weights: &str) -> Result<Vec<Item>, AllocError> {
 
 /// What comes of each call, with a comma after it.
 pub(crate) fn reported(alloc: Global, calls: &str) -> Result<String, AllocError> {
-    let mut queue = SearchQueue::new(alloc, 0);
     let mut text = String::new(alloc);
-    for call in calls.split(';') {
-        push_call(alloc, &mut text, &mut queue, call)?;
-    }
+    let mut queue = SearchQueue::new(alloc, 0);
+    let done = push_calls(alloc, &mut queue, &mut text, calls);
+    discard(queue);
+    done?;
     Ok(text)
 }
 
-fn push_call(
+fn push_calls(
     alloc: Global,
-    text: &mut String,
     queue: &mut SearchQueue<Item>,
-    call: &str,
+    text: &mut String,
+    calls: &str,
 ) -> Result<(), AllocError> {
-    let (word, of) = call.split_once(' ').unwrap_or((call, ""));
-    let answer = after_call(alloc, queue, word, of)?;
-    text.push_str(&answer)?;
-    text.push(',')
+    for call in calls.split(';') {
+        push_answer(text, after_call(alloc, queue, call))?;
+    }
+    Ok(())
 }
 
 fn after_call(
     alloc: Global,
     queue: &mut SearchQueue<Item>,
-    word: &str,
-    of: &str,
+    call: &str,
 ) -> Result<String, AllocError> {
+    let (word, of) = parted(call);
     match word {
         "push" => pushed(alloc, queue, of),
-        "pop" => {
-            let weight = queue.pop().map(|item| item.weight);
-            format!(in alloc; "{weight:?}")
-        }
-        "get" => {
-            let weight = queue.get(number(of) as usize).map(|item| item.weight);
-            format!(in alloc; "{weight:?}")
-        }
-        "length" => format!(in alloc; "{}", queue.len()),
-        "spare" => format!(in alloc; "{}", number(of) <= queue.spare() as u64),
+        "pop" => shown(alloc, &weight_of(queue.pop())),
+        "get" => shown(alloc, &weight_of(queue.get(number(of) as usize).copied())),
+        "length" => shown(alloc, &queue.len()),
+        "spare" => shown(alloc, &(number(of) <= queue.spare() as u64)),
         _ => changed(queue, word, number(of))?.to_string(alloc),
+    }
+}
+
+fn weight_of(item: Option<Item>) -> Option<u64> {
+    match item {
+        Some(item) => Some(item.weight),
+        None => None,
     }
 }
 

@@ -3,29 +3,28 @@ ghost use Rattle.std.specs.List.Sorted.{IsStrictlySortedBy};
 ghost use Rattle.std.specs.Ordering.{nat_cmp};
 ghost use Rattle.refresh_present.specs.Item.{identities};
 
-use crate::rows::check_rows;
+use crate::rows::{check_rows, shown};
 use refresh_present::{Decision, Item};
 use std::alloc::{AllocError, Global};
-use std::test::Fail;
 
 /// After which write the phase begins, and what is decided of the entries: as a whole, and of the
 /// entries as one slice. The third entry is not selected, and the last one by a present phase
 /// alone.
 const ROWS: &str = "\
-present none => [Send(1), Send(2), Send(7)] [Send(1), Send(2), Send(7)]
-present 0 => [Send(1), Send(2), Send(7)] [Send(1), Send(2), Send(7)]
-present 5 => [Present(1), Send(2), Present(7)] [Present(1), Send(2), Present(7)]
-present 9 => [Present(1), Present(2), Present(7)] [Present(1), Present(2), Present(7)]
-delete 0 => [Send(1), Send(2), Delete(3), Delete(7)] [Send(1), Send(2), Delete(3), Delete(7)]
-delete 2 => [Send(1), Send(2), Delete(3), Delete(7)] [Send(1), Send(2), Delete(3), Delete(7)]
-delete 3 => [Send(2), Delete(3), Delete(7)] [Send(2), Delete(3), Delete(7)]
-delete 5 => [Send(2), Delete(3)] [Send(2), Delete(3)]
-delete 9 => [] []
+present none => ([Send(1), Send(2), Send(7)], [Send(1), Send(2), Send(7)])
+present 0 => ([Send(1), Send(2), Send(7)], [Send(1), Send(2), Send(7)])
+present 5 => ([Present(1), Send(2), Present(7)], [Present(1), Send(2), Present(7)])
+present 9 => ([Present(1), Present(2), Present(7)], [Present(1), Present(2), Present(7)])
+delete 0 => ([Send(1), Send(2), Delete(3), Delete(7)], [Send(1), Send(2), Delete(3), Delete(7)])
+delete 2 => ([Send(1), Send(2), Delete(3), Delete(7)], [Send(1), Send(2), Delete(3), Delete(7)])
+delete 3 => ([Send(2), Delete(3), Delete(7)], [Send(2), Delete(3), Delete(7)])
+delete 5 => ([Send(2), Delete(3)], [Send(2), Delete(3)])
+delete 9 => ([], [])
 ";
 
 #[test]
-fn decided_by_touch_and_selection(rt: HostRuntime) -> Result<(), Fail> {
-    check_rows(&rt, rt.alloc(), ROWS)
+fn decided_by_touch_and_selection(rt: HostRuntime) {
+    check_rows(&rt, rt.alloc(), ROWS);
 }
 
 /// Items in ascending order of identity.
@@ -78,5 +77,5 @@ fn delete_reported(alloc: Global, after: u64) -> Result<String, AllocError> {
 }
 
 fn both(alloc: Global, whole: &[Decision], piece: &[Decision]) -> Result<String, AllocError> {
-    format!(in alloc; "{whole:?} {piece:?}")
+    shown(alloc, &(whole, piece))
 }

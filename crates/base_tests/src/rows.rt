@@ -6,28 +6,26 @@ use crate::{
     shared_map_tests,
 };
 use std::alloc::{AllocError, Global};
+use std::fmt::Debug;
 use std::process::Abort;
-use std::test::Fail;
 
 /// Asserts that each row is reported as it has it.
-pub(crate) fn check_rows(rt: &impl Abort, alloc: Global, rows: &str) -> Result<(), Fail> {
+pub(crate) fn check_rows(rt: &impl Abort, alloc: Global, rows: &str) {
     for row in rows.lines() {
         if !row.starts_with('#') {
-            check_row(rt, alloc, row)?;
+            check_row(rt, alloc, row);
         }
     }
-    Ok(())
 }
 
-fn check_row(rt: &impl Abort, alloc: Global, row: &str) -> Result<(), Fail> {
-    let (asked, wanted) = row.split_once(" => ").ok_or(row)?;
-    let reported = reported(alloc, asked)?;
+fn check_row(rt: &impl Abort, alloc: Global, row: &str) {
+    let (asked, wanted) = row.split_once(" => ").expect(rt, row);
+    let reported = reported(alloc, asked).expect(rt, row);
     assert_same(rt, row, &reported.as_str(), &wanted);
-    Ok(())
 }
 
 fn reported(alloc: Global, asked: &str) -> Result<String, AllocError> {
-    let (word, of) = asked.split_once(' ').unwrap_or((asked, ""));
+    let (word, of) = parted(asked);
     match word {
         "present" | "delete" => refresh_tests::reported(alloc, word, of),
         "queue" => persist_queues_tests::reported(alloc, of),
@@ -36,4 +34,27 @@ fn reported(alloc: Global, asked: &str) -> Result<String, AllocError> {
         "map" => shared_map_tests::reported(alloc, of),
         _ => csn_cookie_tests::reported(alloc, word, of),
     }
+}
+
+/// A value in words, by its `Debug`.
+pub(crate) fn shown<T: Debug>(alloc: Global, value: &T) -> Result<String, AllocError> {
+    format!(in alloc; "{value:?}")
+}
+
+/// A call in words: the first one, and what it is asked of.
+pub(crate) fn parted(call: &str) -> (&str, &str) {
+    call.split_once(' ').unwrap_or((call, ""))
+}
+
+pub(crate) fn number(text: &str) -> u64 {
+    text.parse::<u64>().unwrap_or(0)
+}
+
+/// Puts an answer at the end, with a comma after it.
+pub(crate) fn push_answer(
+    text: &mut String,
+    answer: Result<String, AllocError>,
+) -> Result<(), AllocError> {
+    text.push_str(&answer?)?;
+    text.push(',')
 }

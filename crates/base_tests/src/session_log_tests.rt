@@ -1,8 +1,8 @@
 //! Notes and trims of a log of three notes, and then of two, of none and of two again.
-use crate::rows::check_rows;
+use crate::rows::{check_rows, number, parted};
+use ldap_ber::discard;
 use session_log::SessionLog;
 use std::alloc::{AllocError, Global};
-use std::test::Fail;
 
 /// Notes of a number and an identity, trims to a limit, and a copy that goes on in the log's place,
 /// each with a number after it: the floor after it, and what is reported of that number where it is
@@ -12,17 +12,29 @@ log note 1 7 0;note 2 5 0;note 2 9 1;note 3 5 1;note 4 6 2;copy 2;note 5 5 1;tri
 ";
 
 #[test]
-fn notes_and_trims(rt: HostRuntime) -> Result<(), Fail> {
-    check_rows(&rt, rt.alloc(), ROWS)
+fn notes_and_trims(rt: HostRuntime) {
+    check_rows(&rt, rt.alloc(), ROWS);
 }
 
 pub(crate) fn reported(alloc: Global, steps: &str) -> Result<String, AllocError> {
-    let mut log = SessionLog::new(alloc, 3);
     let mut text = String::new(alloc);
-    for step in steps.split(';') {
-        push_step(alloc, &mut text, &mut log, step)?;
-    }
+    let mut log = SessionLog::new(alloc, 3);
+    let done = push_steps(alloc, &mut text, &mut log, steps);
+    discard(log);
+    done?;
     Ok(text)
+}
+
+fn push_steps(
+    alloc: Global,
+    text: &mut String,
+    log: &mut SessionLog,
+    steps: &str,
+) -> Result<(), AllocError> {
+    for step in steps.split(';') {
+        push_step(alloc, text, log, step)?;
+    }
+    Ok(())
 }
 
 fn push_step(
@@ -31,34 +43,43 @@ fn push_step(
     log: &mut SessionLog,
     step: &str,
 ) -> Result<(), AllocError> {
-    let (change, number) = step.rsplit_once(' ').unwrap_or((step, ""));
+    let (change, after) = step.rsplit_once(' ').unwrap_or((step, ""));
     make(log, change)?;
-    let since = since(log, number.parse::<u64>().unwrap_or(0))?;
-    text.push_str(&format!(in alloc; "{} {:?};", log.floor(), since.as_deref())?)
+    let since = since(log, number(after))?;
+    push_known(alloc, text, log.floor(), since.as_deref())
+}
+
+fn push_known(
+    alloc: Global,
+    text: &mut String,
+    floor: u64,
+    since: Option<&[u128]>,
+) -> Result<(), AllocError> {
+    text.push_str(&format!(in alloc; "{floor} {since:?};")?)
 }
 
 fn make(log: &mut SessionLog, change: &str) -> Result<(), AllocError> {
-    if change == "copy" {
-        *log = log.copy()?;
-        return Ok(());
-    }
-    let (change, last) = change.rsplit_once(' ').unwrap_or((change, ""));
-    match change.split_once(' ') {
-        Some((_, number)) => note(
-            log,
-            number.parse::<u64>().unwrap_or(0),
-            last.parse::<u128>().unwrap_or(0),
-        ),
-        None => {
-            log.trim(last.parse::<u64>().unwrap_or(0));
+    let (word, of) = parted(change);
+    match word {
+        "copy" => copy(log),
+        "note" => note(log, of),
+        _ => {
+            log.trim(number(of));
             Ok(())
         }
     }
 }
 
-fn note(log: &mut SessionLog, number: u64, uuid: u128) -> Result<(), AllocError> {
+/// The log goes on as its copy.
+fn copy(log: &mut SessionLog) -> Result<(), AllocError> {
+    *log = log.copy()?;
+    Ok(())
+}
+
+fn note(log: &mut SessionLog, of: &str) -> Result<(), AllocError> {
+    let (write, uuid) = parted(of);
     log.reserve(1)?;
-    log.note(number, uuid);
+    log.note(number(write), uuid.parse::<u128>().unwrap_or(0));
     Ok(())
 }
 

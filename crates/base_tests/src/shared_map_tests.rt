@@ -1,8 +1,10 @@
 //! Calls of a map that shares its nodes, and how long its ways down become.
-use crate::rows::check_rows;
+use crate::assertions::assert_same;
+use crate::rows::{check_rows, number, parted, push_answer, shown};
+use ldap_ber::discard;
 use shared_map::SharedMap;
 use std::alloc::{AllocError, Global};
-use std::test::Fail;
+use std::process::Abort;
 
 type Numbers = SharedMap<u64, u64>;
 
@@ -33,40 +35,42 @@ map put 1 10;put 2 20;copy;remove 1;values;old => ok,ok,ok,ok,[20],[10, 20],
 ";
 
 #[test]
-fn calls_of_a_map(rt: HostRuntime) -> Result<(), Fail> {
-    check_rows(&rt, rt.alloc(), ROWS)
+fn calls_of_a_map(rt: HostRuntime) {
+    check_rows(&rt, rt.alloc(), ROWS);
 }
 
 /// Steps through the keys below 20,000 that lead to each of them: up, down, and to and fro.
 const STEPS: [u64; 3] = [1, 19_999, 7_919];
 
 #[test]
-fn ways_down_stay_short(rt: HostRuntime) -> Result<(), Fail> {
-    for step in STEPS {
-        let mut map = filled(rt.alloc(), step)?;
-        assert!(rt;
-            map.len() == 20_000 && map.height() < 32,
-            "{step}: {}",
-            map.height()
-        );
-        drain_half(&mut map)?;
-        assert!(rt;
-            map.len() == 10_000 && map.height() < 32,
-            "{step}: {}",
-            map.height()
-        );
+fn ways_down_stay_short(rt: HostRuntime) {
+    for step in &STEPS {
+        check_ways(&rt, rt.alloc(), *step);
     }
-    Ok(())
 }
 
-fn filled(alloc: Global, step: u64) -> Result<Numbers, AllocError> {
+fn check_ways(rt: &impl Abort, alloc: Global, step: u64) {
     let mut map = SharedMap::new(alloc);
+    fill(&mut map, step).expect(rt, "20,000 keys");
+    assert_short(rt, &map, 20_000);
+    drain_half(&mut map).expect(rt, "10,000 keys");
+    assert_short(rt, &map, 10_000);
+    discard(map);
+}
+
+/// The map has as many keys, and no long way down.
+fn assert_short(rt: &impl Abort, map: &Numbers, count: usize) {
+    assert_same(rt, "keys", &map.len(), &count);
+    assert!(rt; map.height() < 32);
+}
+
+fn fill(map: &mut Numbers, step: u64) -> Result<(), AllocError> {
     let mut key = 0u64;
     for _ in 0..20_000 {
         map.insert(key, key)?;
         key = key.wrapping_add(step) % 20_000;
     }
-    Ok(map)
+    Ok(())
 }
 
 /// Removes the keys from 5,000 to 14,999.
@@ -79,57 +83,76 @@ fn drain_half(map: &mut Numbers) -> Result<(), AllocError> {
 
 /// What comes of each call, with a comma after it.
 pub(crate) fn reported(alloc: Global, calls: &str) -> Result<String, AllocError> {
+    let mut text = String::new(alloc);
     let mut map = SharedMap::new(alloc);
     let mut old = SharedMap::new(alloc);
-    let mut text = String::new(alloc);
-    for call in calls.split(';') {
-        let (word, of) = call.split_once(' ').unwrap_or((call, ""));
-        let answer = after_call(alloc, &mut map, &mut old, word, of)?;
-        text.push_str(&answer)?;
-        text.push(',')?;
-    }
+    let done = push_calls(alloc, &mut map, &mut old, &mut text, calls);
+    discard(map);
+    discard(old);
+    done?;
     Ok(text)
 }
 
-fn number(text: &str) -> u64 {
-    text.parse::<u64>().unwrap_or(0)
+fn push_calls(
+    alloc: Global,
+    map: &mut Numbers,
+    old: &mut Numbers,
+    text: &mut String,
+    calls: &str,
+) -> Result<(), AllocError> {
+    for call in calls.split(';') {
+        push_answer(text, after_call(alloc, map, old, call))?;
+    }
+    Ok(())
 }
 
 fn after_call(
     alloc: Global,
     map: &mut Numbers,
     old: &mut Numbers,
-    word: &str,
-    of: &str,
+    call: &str,
 ) -> Result<String, AllocError> {
+    let (word, of) = parted(call);
     match word {
-        "put" => {
-            let (key, value) = of.split_once(' ').unwrap_or((of, ""));
-            map.insert(number(key), number(value))?;
-            "ok".to_string(alloc)
-        }
-        "remove" => {
-            map.remove(&number(of))?;
-            "ok".to_string(alloc)
-        }
-        "copy" => {
-            *old = map.copy()?;
-            "ok".to_string(alloc)
-        }
-        "old" => format!(in alloc; "{:?}", old.values()?),
+        "put" => done(alloc, put(map, of)),
+        "remove" => done(alloc, map.remove(&number(of))),
+        "copy" => done(alloc, copy(map, old)),
+        "old" => values_shown(alloc, old.values()),
         _ => found(alloc, map, word, number(of)),
     }
 }
 
+fn done(alloc: Global, done: Result<(), AllocError>) -> Result<String, AllocError> {
+    done?;
+    "ok".to_string(alloc)
+}
+
+fn put(map: &mut Numbers, of: &str) -> Result<(), AllocError> {
+    let (key, value) = parted(of);
+    map.insert(number(key), number(value))
+}
+
+fn copy(map: &Numbers, old: &mut Numbers) -> Result<(), AllocError> {
+    *old = map.copy()?;
+    Ok(())
+}
+
 fn found(alloc: Global, map: &Numbers, word: &str, key: u64) -> Result<String, AllocError> {
     match word {
-        "get" => format!(in alloc; "{:?}", map.get(&key)),
-        "first" => format!(in alloc; "{:?}", map.first()),
-        "last" => format!(in alloc; "{:?}", map.last()),
-        "from" => format!(in alloc; "{:?}", map.next_from(&key)),
-        "after" => format!(in alloc; "{:?}", map.next_after(&key)),
-        "above" => format!(in alloc; "{:?}", map.values_after(&key)?),
-        "len" => format!(in alloc; "{}", map.len()),
-        _ => format!(in alloc; "{:?}", map.values()?),
+        "get" => shown(alloc, &map.get(&key)),
+        "first" => shown(alloc, &map.first()),
+        "last" => shown(alloc, &map.last()),
+        "from" => shown(alloc, &map.next_from(&key)),
+        "after" => shown(alloc, &map.next_after(&key)),
+        "above" => values_shown(alloc, map.values_after(&key)),
+        "len" => shown(alloc, &map.len()),
+        _ => values_shown(alloc, map.values()),
     }
+}
+
+fn values_shown(
+    alloc: Global,
+    values: Result<Vec<&u64>, AllocError>,
+) -> Result<String, AllocError> {
+    shown(alloc, &values?)
 }

@@ -1,11 +1,11 @@
 //! What sources give and sinks hold, over small pieces.
 ghost use Rattle.std.specs.Prelude.{Some, None};
 
-use ldap_ber::Octets;
+use crate::assertions::assert_same;
+use ldap_ber::{Octets, discard};
 use std::alloc::{AllocError, Global};
 use std::io::{BufWriter, Cursor};
 use std::process::Abort;
-use std::test::Fail;
 use sync_io::{
     FaultySink, FaultySource, MemorySink, MemorySource, Piece, Put, Reading, Sink, Source, Step,
     Writing, write_whole,
@@ -46,21 +46,19 @@ fn assert_answers<S: Source>(
     reads: u32,
     wanted: &str,
 ) {
-    let Ok(answers) = answers(alloc, source, reads) else {
-        panic!(rt; "out of memory")
-    };
-    assert!(rt; answers.as_str() == wanted, "{answers}");
+    let answers = answers(alloc, source, reads).expect(rt, "answers");
+    assert_same(rt, "reads", &answers.as_str(), &wanted);
 }
 
 const PIECES: &str = "ab cd e end end ";
 
 #[test]
-fn sources_give_their_bytes_in_pieces(rt: HostRuntime) -> Result<(), Fail> {
-    let mut memory = MemorySource::new(Octets::from_slice(rt.alloc(), b"abcde")?);
+fn sources_give_their_bytes_in_pieces(rt: HostRuntime) {
+    let bytes = Octets::from_slice(rt.alloc(), b"abcde").expect(&rt, "bytes");
+    let mut memory = MemorySource::new(bytes);
     assert_answers(&rt, rt.alloc(), &mut memory, 5, PIECES);
     let mut reading = Reading::new(Cursor::new(b"abcde".as_slice()));
     assert_answers(&rt, rt.alloc(), &mut reading, 5, PIECES);
-    Ok(())
 }
 
 /// The step that a word names, or one that gives the bytes of the word.
@@ -82,9 +80,9 @@ pub(crate) fn steps(alloc: Global, words: &[&str]) -> Result<Vec<Step>, AllocErr
 }
 
 #[test]
-fn a_faulty_source_plays_its_steps(rt: HostRuntime) -> Result<(), Fail> {
-    let steps = steps(rt.alloc(), &["abc", "fail", "", "de", "quiet", "f"])?;
-    let mut source = FaultySource::new(steps);
+fn a_faulty_source_plays_its_steps(rt: HostRuntime) {
+    let steps = steps(rt.alloc(), &["abc", "fail", "", "de", "quiet", "f"]);
+    let mut source = FaultySource::new(steps.expect(&rt, "steps"));
     assert_answers(
         &rt,
         rt.alloc(),
@@ -93,7 +91,7 @@ fn a_faulty_source_plays_its_steps(rt: HostRuntime) -> Result<(), Fail> {
         "ab c failed de quiet f end ",
     );
     assert!(rt; source.read_faults() == 1);
-    Ok(())
+    discard(source);
 }
 
 /// A sink that takes two bytes of a piece at most.
@@ -130,17 +128,18 @@ fn a_narrow_sink_takes_all_the_bytes(rt: HostRuntime) {
     };
     assert!(rt; write_whole(&mut narrow, b"abcde") && write_whole(&mut narrow, b""));
     assert!(rt; narrow.flush() && narrow.sink.bytes() == b"abcde".as_slice());
+    discard(narrow);
 }
 
 #[test]
-fn a_faulty_sink_fails_at_its_calls(rt: HostRuntime) -> Result<(), Fail> {
-    let calls = Vec::from_slice(rt.alloc(), &[2, 4])?;
+fn a_faulty_sink_fails_at_its_calls(rt: HostRuntime) {
+    let calls = Vec::from_slice(rt.alloc(), &[2, 4]).expect(&rt, "calls");
     let mut faulty = FaultySink::new(rt.alloc(), calls);
     assert!(rt; write_whole(&mut faulty, b"ab") && !write_whole(&mut faulty, b"cd"));
     assert!(rt; write_whole(&mut faulty, b"ef") && !faulty.flush());
     assert!(rt; faulty.write(b"g") == Put::Wrote(1));
     assert!(rt; faulty.bytes() == b"abefg".as_slice() && faulty.write_faults() == 2);
-    Ok(())
+    discard(faulty);
 }
 
 #[test]
@@ -152,10 +151,11 @@ fn a_writer_without_room_is_a_fault(rt: HostRuntime) {
 }
 
 #[test]
-fn a_flush_reaches_the_writer(rt: HostRuntime) -> Result<(), Fail> {
+fn a_flush_reaches_the_writer(rt: HostRuntime) {
     let alloc = rt.alloc();
-    let mut writing = Writing::new(BufWriter::new(alloc, Vec::new(alloc))?);
+    let writer = BufWriter::new(alloc, Vec::new(alloc)).expect(&rt, "a writer");
+    let mut writing = Writing::new(writer);
     assert!(rt; write_whole(&mut writing, b"abc") && writing.flush());
     assert!(rt; writing.writer.get_ref().as_slice() == b"abc".as_slice());
-    Ok(())
+    discard(writing);
 }

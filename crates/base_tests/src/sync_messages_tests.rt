@@ -5,7 +5,6 @@ use crate::assertions::{assert_same, assert_same_of};
 use ldap_ber::{BerFault, BerKind, NoMemory, Octets, discard};
 use std::alloc::Global;
 use std::process::Abort;
-use std::test::Fail;
 use sync_messages::{IdList, Mode, State, SyncDone, SyncFault, SyncInfo, SyncRequest, SyncState};
 
 // What these calls answer is compared when the tests run: the proofs of the tests know nothing of
@@ -63,14 +62,13 @@ fn request_parts(request: &SyncRequest) -> Request<'_> {
 }
 
 #[test]
-fn requests_both_ways(rt: HostRuntime) -> Result<(), Fail> {
+fn requests_both_ways(rt: HostRuntime) {
     for (spelling, wanted) in &REQUESTS {
-        let request = request_of(rt.alloc(), spelling)?;
+        let request = request_of(rt.alloc(), spelling).expect(&rt, "a request");
         assert_same_of(&rt, spelling, &request_parts(&request), wanted);
-        let written = request.write(rt.alloc())?;
+        let written = request.write(rt.alloc()).expect(&rt, "memory");
         assert_same_of(&rt, spelling, &written.as_slice(), spelling);
     }
-    Ok(())
 }
 
 /// States of entries, and what they say.
@@ -106,19 +104,18 @@ fn state_parts(state: &SyncState) -> (State, u128, Option<&[u8]>) {
 }
 
 #[test]
-fn states_both_ways(rt: HostRuntime) -> Result<(), Fail> {
+fn states_both_ways(rt: HostRuntime) {
     for (spelling, kind, uuid, cookie) in &STATES {
-        let state = state_of(rt.alloc(), spelling)?;
+        let state = state_of(rt.alloc(), spelling).expect(&rt, "a state");
         assert_same_of(
             &rt,
             spelling,
             &state_parts(&state),
             &(*kind, *uuid, *cookie),
         );
-        let written = state.write(rt.alloc())?;
+        let written = state.write(rt.alloc()).expect(&rt, "memory");
         assert_same_of(&rt, spelling, &written.as_slice(), spelling);
     }
-    Ok(())
 }
 
 /// Ends of refreshes, and what they say.
@@ -142,19 +139,18 @@ fn done_parts(done: &SyncDone) -> (Option<&[u8]>, bool) {
 }
 
 #[test]
-fn dones_both_ways(rt: HostRuntime) -> Result<(), Fail> {
+fn dones_both_ways(rt: HostRuntime) {
     for (spelling, cookie, refresh_deletes) in &DONES {
-        let done = done_of(rt.alloc(), spelling)?;
+        let done = done_of(rt.alloc(), spelling).expect(&rt, "an end");
         assert_same_of(
             &rt,
             spelling,
             &done_parts(&done),
             &(*cookie, *refresh_deletes),
         );
-        let written = done.write(rt.alloc())?;
+        let written = done.write(rt.alloc()).expect(&rt, "memory");
         assert_same_of(&rt, spelling, &written.as_slice(), spelling);
     }
-    Ok(())
 }
 
 /// The number of a choice, its cookie and its flag.
@@ -219,7 +215,7 @@ fn assert_parts(
     ids: &[u128],
 ) {
     assert_same_of(rt, bytes, &parts_of(info), parts);
-    assert!(rt; ids_of(info) == ids, "{bytes:?}");
+    assert_same_of(rt, bytes, &ids_of(info), &ids);
 }
 
 fn assert_info(
@@ -236,13 +232,12 @@ fn assert_info(
 }
 
 #[test]
-fn infos_both_ways(rt: HostRuntime) -> Result<(), Fail> {
+fn infos_both_ways(rt: HostRuntime) {
     for (spelling, parts, ids) in &INFOS {
-        assert_info(&rt, rt.alloc(), spelling, parts, *ids)?;
-        let written = info_written(rt.alloc(), spelling)?;
+        assert_info(&rt, rt.alloc(), spelling, parts, *ids).expect(&rt, "an info");
+        let written = info_written(rt.alloc(), spelling).expect(&rt, "an info");
         assert_same_of(&rt, spelling, &written.as_slice(), spelling);
     }
-    Ok(())
 }
 
 /// Requests that are read and never written, each with what is written in its place.
@@ -281,24 +276,22 @@ fn request_written(alloc: Global, bytes: &[u8]) -> Result<Octets, SyncFault> {
 }
 
 #[test]
-fn other_spellings(rt: HostRuntime) -> Result<(), Fail> {
+fn other_spellings(rt: HostRuntime) {
     for (spelling, wanted) in &SPELLINGS {
-        let written = request_written(rt.alloc(), spelling)?;
+        let written = request_written(rt.alloc(), spelling).expect(&rt, "a request");
         assert_same_of(&rt, spelling, &written.as_slice(), wanted);
     }
-    Ok(())
 }
 
 #[test]
-fn another_spelling_of_an_info(rt: HostRuntime) -> Result<(), Fail> {
-    let written = info_written(rt.alloc(), b"\xa1\x03\x01\x01\x05")?;
+fn another_spelling_of_an_info(rt: HostRuntime) {
+    let written = info_written(rt.alloc(), b"\xa1\x03\x01\x01\x05").expect(&rt, "memory");
     assert_same(
         &rt,
         "refreshDelete",
         &written.as_slice(),
         &b"\xa1\0".as_slice(),
     );
-    Ok(())
 }
 
 /// Requests that are refused.
@@ -543,11 +536,10 @@ fn ids_in(alloc: Global, bytes: &[u8]) -> Result<usize, SyncFault> {
 
 /// A long list takes no more of the stack than a short one.
 #[test]
-fn long_sets(rt: HostRuntime) -> Result<(), Fail> {
-    let written = long_set(rt.alloc())?;
+fn long_sets(rt: HostRuntime) {
+    let written = long_set(rt.alloc()).expect(&rt, "memory");
     let length = written.as_slice().len();
     assert_same(&rt, "length", &length, &(10 + 100_000 * 18));
-    let count = ids_in(rt.alloc(), written.as_slice())?;
+    let count = ids_in(rt.alloc(), written.as_slice()).expect(&rt, "an info");
     assert_same(&rt, "identities", &count, &100_000);
-    Ok(())
 }

@@ -1,17 +1,17 @@
 //! Passes at a cell of pairs: what they are given back, what they have seen, and what stays.
-ghost use Rattle.std.specs.Prelude.{◌≡◌};
+ghost use Rattle.std.specs.Prelude.{◌≡◌, ◌++◌, [], ◌∷◌};
 ghost use Rattle.std.specs.Thread.{IsSync};
 ghost use Rattle.turn_cell.specs.Passes.{cell_id, cell_of};
 
 use crate::{Pairs, add_both, look};
+use std::process::Abort;
 use std::sync::Wait;
-use std::test::Fail;
 use std::thread::{Threads, join};
 use turn_cell::{CloseFault, Pass, TurnCell, seen};
 
 /// Three passes: one adds two pairs, one adds none, and one takes no turn, but meets the first.
 #[test]
-fn a_turn_counts_what_it_added(rt: HostRuntime) -> Result<(), Fail> {
+fn a_turn_counts_what_it_added(rt: HostRuntime) {
     let Ok((cell, mut passes)) = TurnCell::new(rt.alloc(), Pairs::new(rt.alloc()), 3) else {
         panic!(rt; "out of memory")
     };
@@ -28,23 +28,31 @@ fn a_turn_counts_what_it_added(rt: HostRuntime) -> Result<(), Fail> {
     assert!(rt; seen(&first) == 2 && seen(&second) == 2 && seen(&third) == 0);
     cell.meet(&mut third, &mut first);
     assert!(rt; seen(&first) == 2 && seen(&third) == 2);
-    passes.push(first)?;
-    passes.push(second)?;
+    put_back(&rt, &mut passes, first);
+    put_back(&rt, &mut passes, second);
     let Err((fault, cell, mut passes)) = cell.close(passes) else {
         panic!(rt; "a pass was out")
     };
     assert!(rt; fault == CloseFault::PassesOut(1) && passes.len() == 2);
-    passes.push(third)?;
+    put_back(&rt, &mut passes, third);
     let Ok(pairs) = cell.close(passes) else {
         panic!(rt; "no pass was out")
     };
     assert!(rt; pairs.list() == [(1, 10), (1, 11)].as_slice());
-    Ok(())
+}
+
+/// Puts a pass at the end.
+fn put_back(rt: &impl Abort, passes: &mut Vec<Pass<Pairs>>, pass: Pass<Pairs>)
+    ensures { passes.new.items ≡ passes.old.items ++ pass ∷ [] }
+{
+    let Ok(()) = passes.push(pass) else {
+        panic!(rt; "out of memory")
+    };
 }
 
 /// Four threads, which each add the numbers from their own hundred on, one in a turn.
 #[test]
-fn all_that_threads_add_stands(rt: HostRuntime) -> Result<(), Fail> {
+fn all_that_threads_add_stands(rt: HostRuntime) {
     let Ok((cell, mut passes)) = TurnCell::new(rt.alloc(), Pairs::new(rt.alloc()), 4) else {
         panic!(rt; "out of memory")
     };
@@ -53,16 +61,21 @@ fn all_that_threads_add_stands(rt: HostRuntime) -> Result<(), Fail> {
     let second = passes.pop().unwrap();
     let first = passes.pop().unwrap();
     let (first, second, third, fourth) = add_from_four(&rt, &cell, first, second, third, fourth);
-    passes.push(first)?;
-    passes.push(second)?;
-    passes.push(third)?;
-    passes.push(fourth)?;
+    put_back(&rt, &mut passes, first);
+    put_back(&rt, &mut passes, second);
+    put_back(&rt, &mut passes, third);
+    put_back(&rt, &mut passes, fourth);
     let Ok(pairs) = cell.close(passes) else {
         panic!(rt; "no pass was out")
     };
     assert!(rt; pairs.list().len() == 400);
+    assert_in_order(&rt, pairs.list());
+}
+
+/// Asserts that each pass added its numbers in order.
+fn assert_in_order(rt: &impl Abort, pairs: &[(u32, u64)]) {
     let mut next = [100u64, 200, 300, 400];
-    for (number, value) in pairs.list() {
+    for (number, value) in pairs {
         let Some(place) = number.checked_sub(1) else {
             panic!(rt; "a pair of no pass")
         };
@@ -72,7 +85,6 @@ fn all_that_threads_add_stands(rt: HostRuntime) -> Result<(), Fail> {
         assert!(rt; *value == *wanted);
         *wanted = wanted.wrapping_add(1);
     }
-    Ok(())
 }
 
 /// Adds the numbers from 100, 200, 300 and 400 on, a hundred each, in four threads.

@@ -46,10 +46,10 @@ only_searches p p1 search search1 same = record {
 -- ---- what is handed out
 
 -- a message that is handed out changes its own search alone
-pub others_handed : (p p1 : ProviderState) (search : Option ℕ) (number : ℕ) → search ≡ Some number → p1 ≡ record p { searches = handed_on p.searches number (search_at p.searches number) } → closed p1 search ≡ closed p search
+pub others_handed : (p p1 : ProviderState) (search : Option ℕ) (number : ℕ) → search ≡ Some number → p1 ≡ record p { searches = handed_on p.directory p.searches number (search_at p.searches number) } → closed p1 search ≡ closed p search
 others_handed p p1 search number is after =
     let own : closed p1 (Some number) ≡ closed p (Some number) =
-    ap (λ q. closed q (Some number)) after ∙ ap (λ es. record p { searches = es }) (closed_on p.searches number (search_at p.searches number)) in
+    ap (λ q. closed q (Some number)) after ∙ ap (λ es. record p { searches = es }) (closed_on p.directory p.searches number (search_at p.searches number)) in
     subst (λ s. closed p1 s ≡ closed p s) (sym is) own
 
 -- and so does the last one

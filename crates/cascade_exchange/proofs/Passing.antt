@@ -24,14 +24,14 @@ use Rattle.cascade_exchange.proofs.Sendings.{sends_one, full}
 
 -- at first none is
 pub none_ahead : (p : ProviderState) (search : Option ℕ) → IsAhead p search 0 false
-none_ahead p search = record { others = refl; places = λ goes number place is. let plain : place ≡ 0 + place = omega arith in ap (turn_at_place p.searches number) plain }
+none_ahead p search = record { others = refl; places = λ goes number place is. let plain : place ≡ 0 + place = omega arith in ap (turn_at_place p.directory p.searches number) plain }
 
-turn_now : (p : ProviderState) (search : Option ℕ) (n number : ℕ) → IsAhead p search n false → search ≡ Some number → turn_of (handed_times n p search) search ≡ turn_at_place p.searches number n
+turn_now : (p : ProviderState) (search : Option ℕ) (n number : ℕ) → IsAhead p search n false → search ≡ Some number → turn_of (handed_times n p search) search ≡ turn_at_place p.directory p.searches number n
 turn_now p search n number ahead is =
     let plain : n + 0 ≡ n = omega arith in
     ap (turn_of (handed_times n p search)) is
-    ∙ sym (first_place (handed_times n p search).searches number)
-    ∙ ahead.places refl number 0 is ∙ ap (turn_at_place p.searches number) plain
+    ∙ sym (first_place (handed_times n p search).directory (handed_times n p search).searches number)
+    ∙ ahead.places refl number 0 is ∙ ap (turn_at_place p.directory p.searches number) plain
 
 times_more : (n : ℕ) (p : ProviderState) (search : Option ℕ) (number : ℕ) → search ≡ Some number → handed_times (n + 1) p search ≡ handed (handed_times n p search) (Some number)
 times_more n p search number is =
@@ -39,49 +39,50 @@ times_more n p search number is =
     ap (λ m. handed_times m p search) next ∙ ap (handed (handed_times n p search)) is
 
 -- one message more
-pub one_ahead : (p : ProviderState) (search : Option ℕ) (n number : ℕ) (whole : MessageValue) → IsAhead p search n false → search ≡ Some number → turn_at_place p.searches number n ≡ Hands whole → IsAhead p search (n + 1) false
+pub one_ahead : (p : ProviderState) (search : Option ℕ) (n number : ℕ) (whole : MessageValue) → IsAhead p search n false → search ≡ Some number → turn_at_place p.directory p.searches number n ≡ Hands whole → IsAhead p search (n + 1) false
 one_ahead p search n number whole ahead at hands = record { others = others; places = places }
   where
     v : ProviderState
     v = handed_times n p search
 
-    now : turn_at v.searches number ≡ Hands whole
+    now : turn_at v.directory v.searches number ≡ Hands whole
     now = sym (ap (turn_of v) at) ∙ turn_now p search n number ahead at ∙ hands
 
     others : closed (handed_times (n + 1) p search) search ≡ closed p search
     others =
         ap (λ q. closed q search) (times_more n p search number at)
         ∙ ap (closed (handed v (Some number))) at
-        ∙ ap (λ turn. closed (record v { searches = after_turn v.searches number turn }) (Some number)) now
-        ∙ ap (λ es. record v { searches = es }) (closed_on v.searches number (search_at v.searches number))
+        ∙ ap (λ turn. closed (record v { searches = after_turn v.directory v.searches number turn }) (Some number)) now
+        ∙ ap (λ es. record v { searches = es }) (closed_on v.directory v.searches number (search_at v.searches number))
         ∙ sym (ap (closed v) at)
         ∙ ahead.others
 
-    places : false ≡ false → (k place : ℕ) → search ≡ Some k → turn_at_place (handed_times (n + 1) p search).searches k place ≡ turn_at_place p.searches k (n + 1 + place)
+    places : false ≡ false → (k place : ℕ) → search ≡ Some k
+        → turn_at_place (handed_times (n + 1) p search).directory (handed_times (n + 1) p search).searches k place ≡ turn_at_place p.directory p.searches k (n + 1 + place)
     places goes k place is =
         let both : Some number ≡ Some k = sym at ∙ is in
         let same : number ≡ k = cc in
         let more : n + suc place ≡ n + 1 + place = omega arith in
-        let here : turn_at v.searches k ≡ Hands whole = ap (turn_at v.searches) (sym same) ∙ now in
-        ap (λ (q : ProviderState). turn_at_place q.searches k place) (times_more n p search k is)
-        ∙ nearer v.searches k place whole here
+        let here : turn_at v.directory v.searches k ≡ Hands whole = ap (turn_at v.directory v.searches) (sym same) ∙ now in
+        ap (λ (q : ProviderState). turn_at_place q.directory q.searches k place) (times_more n p search k is)
+        ∙ nearer v.directory v.searches k place whole here
         ∙ ahead.places refl k (suc place) is
-        ∙ ap (turn_at_place p.searches k) more
+        ∙ ap (turn_at_place p.directory p.searches k) more
 
 -- the last one, with which the search is closed
-pub last_ahead : (p : ProviderState) (search : Option ℕ) (n number : ℕ) (code : ℤ) (whole : MessageValue) → IsAhead p search n false → search ≡ Some number → turn_at_place p.searches number n ≡ Closes code whole → IsAhead p search (n + 1) true
+pub last_ahead : (p : ProviderState) (search : Option ℕ) (n number : ℕ) (code : ℤ) (whole : MessageValue) → IsAhead p search n false → search ≡ Some number → turn_at_place p.directory p.searches number n ≡ Closes code whole → IsAhead p search (n + 1) true
 last_ahead p search n number code whole ahead at closes = record { others = others; places = λ goes k place is. let never : ⊥ = cc in absurd never }
   where
     v : ProviderState
     v = handed_times n p search
 
-    now : turn_at v.searches number ≡ Closes code whole
+    now : turn_at v.directory v.searches number ≡ Closes code whole
     now = sym (ap (turn_of v) at) ∙ turn_now p search n number ahead at ∙ closes
 
     others : handed_times (n + 1) p search ≡ closed p search
     others =
         times_more n p search number at
-        ∙ ap (λ turn. record v { searches = after_turn v.searches number turn }) now
+        ∙ ap (λ turn. record v { searches = after_turn v.directory v.searches number turn }) now
         ∙ sym (ap (closed v) at)
         ∙ ahead.others
 
@@ -95,7 +96,7 @@ longer_pair lin p f f2 n ended same =
     λ i. agreement_of (handed_times (next i) p (same i)) (record f2 { search = cond ended None (same i) }) lin
 
 -- a message after which the search goes on
-pub links_one : (lin : Lineage) (p : ProviderState) (f f2 : ConsumerNode) (n number : ℕ) (whole : MessageValue) (old new : Report) → IsAhead p f.search n false → f.search ≡ Some number → turn_at_place p.searches number n ≡ Hands whole
+pub links_one : (lin : Lineage) (p : ProviderState) (f f2 : ConsumerNode) (n number : ℕ) (whole : MessageValue) (old new : Report) → IsAhead p f.search n false → f.search ≡ Some number → turn_at_place p.directory p.searches number n ≡ Hands whole
     → Links f (message_octets whole) old f2 new (Ok tt)
     → SendsOne (passed n false (agreement_of p f lin)) (sending (passed n false (agreement_of p f lin))) old (passed (n + 1) false (agreement_of p f2 lin)) new (Ok true)
 links_one lin p f f2 n number whole old new ahead at hands link' =
@@ -110,7 +111,7 @@ links_one lin p f f2 n number whole old new ahead at hands link' =
     (subst (λ turn. SendsOne (agreement_of v f lin) (sending_by (agreement_of v f lin) turn) old (agreement_of (handed v f.search) f2 lin) new (Ok true)) (sym now) one)
 
 -- the last one
-pub links_last : (lin : Lineage) (p : ProviderState) (f f2 : ConsumerNode) (n number : ℕ) (code : ℤ) (whole : MessageValue) (old new : Report) → IsAhead p f.search n false → f.search ≡ Some number → turn_at_place p.searches number n ≡ Closes code whole
+pub links_last : (lin : Lineage) (p : ProviderState) (f f2 : ConsumerNode) (n number : ℕ) (code : ℤ) (whole : MessageValue) (old new : Report) → IsAhead p f.search n false → f.search ≡ Some number → turn_at_place p.directory p.searches number n ≡ Closes code whole
     → Links f (message_octets whole) old f2 new (Ok tt)
     → SendsOne (passed n false (agreement_of p f lin)) (sending (passed n false (agreement_of p f lin))) old (passed (n + 1) true (agreement_of p f2 lin)) new (Ok true)
 links_last lin p f f2 n number code whole old new ahead at closes link' =
@@ -137,7 +138,7 @@ over_as pair search message old text after f2 Circle h = (full pair search messa
 over_as pair search message old text after f2 NoMemory h = tt
 
 -- the next message does not fit the link: the sending is refused, and all is as it was
-pub links_over : (lin : Lineage) (p : ProviderState) (f f2 : ConsumerNode) (n number : ℕ) (whole : MessageValue) (old new : Report) (after : Agreement) (cause : Cause) → IsAhead p f.search n false → f.search ≡ Some number → turn_at_place p.searches number n ≡ Hands whole
+pub links_over : (lin : Lineage) (p : ProviderState) (f f2 : ConsumerNode) (n number : ℕ) (whole : MessageValue) (old new : Report) (after : Agreement) (cause : Cause) → IsAhead p f.search n false → f.search ≡ Some number → turn_at_place p.directory p.searches number n ≡ Hands whole
     → Links f (message_octets whole) old f2 new (Err cause) → SendsOne (passed n false (agreement_of p f lin)) (sending (passed n false (agreement_of p f lin))) old after new (Err cause)
 links_over lin p f f2 n number whole old new after cause ahead at hands h =
     let v : ProviderState = handed_times n p f.search in
@@ -146,7 +147,7 @@ links_over lin p f f2 n number whole old new after cause ahead at hands h =
     (over_as (agreement_of v f lin) f.search (message_octets whole) old new after f2 cause h)
 
 -- the same of the message that ends the search
-pub links_last_over : (lin : Lineage) (p : ProviderState) (f f2 : ConsumerNode) (n number : ℕ) (code : ℤ) (whole : MessageValue) (old new : Report) (after : Agreement) (cause : Cause) → IsAhead p f.search n false → f.search ≡ Some number → turn_at_place p.searches number n ≡ Closes code whole
+pub links_last_over : (lin : Lineage) (p : ProviderState) (f f2 : ConsumerNode) (n number : ℕ) (code : ℤ) (whole : MessageValue) (old new : Report) (after : Agreement) (cause : Cause) → IsAhead p f.search n false → f.search ≡ Some number → turn_at_place p.directory p.searches number n ≡ Closes code whole
     → Links f (message_octets whole) old f2 new (Err cause) → SendsOne (passed n false (agreement_of p f lin)) (sending (passed n false (agreement_of p f lin))) old after new (Err cause)
 links_last_over lin p f f2 n number code whole old new after cause ahead at closes h =
     let v : ProviderState = handed_times n p f.search in
@@ -155,7 +156,7 @@ links_last_over lin p f f2 n number code whole old new after cause ahead at clos
     (over_as (agreement_of v f lin) None (message_octets whole) old new after f2 cause h)
 
 -- nothing is pending: the search waits, or is not open, or none was asked for, or it ended
-pub links_none : (lin : Lineage) (p : ProviderState) (f : ConsumerNode) (n number : ℕ) (turn : HandOut) (text : Report) → IsAhead p f.search n false → f.search ≡ Some number → turn_at_place p.searches number n ≡ turn
+pub links_none : (lin : Lineage) (p : ProviderState) (f : ConsumerNode) (n number : ℕ) (turn : HandOut) (text : Report) → IsAhead p f.search n false → f.search ≡ Some number → turn_at_place p.directory p.searches number n ≡ turn
     → ((pair : Agreement) → sending_by pair turn ≡ Rests)
     → SendsOne (passed n false (agreement_of p f lin)) (sending (passed n false (agreement_of p f lin))) text (passed n false (agreement_of p f lin)) text (Ok false)
 links_none lin p f n number turn text ahead at is rests =

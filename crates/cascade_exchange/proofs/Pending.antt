@@ -5,10 +5,10 @@ use Rattle.std.specs.Prelude.{Ok, Err}
 use Rattle.ldap_messages.specs.Whole.{MessageValue, message_octets}
 use Rattle.sync_model.specs.Copy.{Copy}
 use Rattle.sync_model.specs.Message.{SyncMessage}
-use Rattle.sync_provider.specs.HandingOut.{HandOut, turn_of_message, turn_of_pending, turn_of_found, search_at, turn_at, without_first, handed_on, after_turn}
+use Rattle.sync_provider.specs.HandingOut.{HandOut, turn_of_message, turn_of_pending, turn_of_found, search_at, turn_at, handed_on, after_turn}
 use Rattle.sync_provider.specs.HandingOut.HandOut.{Hands, Closes, Waits, Unknown}
 use Rattle.sync_provider.specs.Machine.{ProviderState}
-use Rattle.sync_provider.specs.Search.{SearchState, pending}
+use Rattle.sync_provider.specs.Search.{SearchState, pending, advanced}
 use Rattle.sync_provider.proofs.Nearer.{one_less}
 use Rattle.directory_writes.proofs.Keyed.{put_on-same}
 use Rattle.cascade_script.specs.declared.fault.Cause.{Cause}
@@ -46,16 +46,16 @@ sends_less p search message n some less =
 
 -- the search that was handed a message has one less pending
 left_after : (lin : Lineage) → (p : ProviderState) (f : ConsumerNode) (search : Option ℕ) (number : ℕ) (s : SearchState) (first : SyncMessage) (rest : List SyncMessage) (whole : MessageValue) → search ≡ Some number
-    → search_at p.searches number ≡ Some s → pending s ≡ first ∷ rest → turn_at p.searches number ≡ Hands whole → left_to_send (agreement_of (handed p search) f lin) search ≡ length rest
+    → search_at p.searches number ≡ Some s → pending p.directory s ≡ first ∷ rest → turn_at p.directory p.searches number ≡ Hands whole → left_to_send (agreement_of (handed p search) f lin) search ≡ length rest
 left_after lin p f search number s first rest whole at found waits turn =
     ap (λ q. left_to_send (agreement_of (handed p q) f lin) q) at
-    ∙ ap (λ t. pending_count (search_at (after_turn p.searches number t) number)) turn
-    ∙ ap (λ x. pending_count (search_at (handed_on p.searches number x) number)) found
-    ∙ ap pending_count (put_on-same p.searches number (without_first s) s found)
-    ∙ one_less s first rest whole waits (sym (ap (turn_of_pending s.id) waits) ∙ sym (ap turn_of_found found) ∙ turn)
+    ∙ ap (λ t. pending_count p.directory (search_at (after_turn p.directory p.searches number t) number)) turn
+    ∙ ap (λ x. pending_count p.directory (search_at (handed_on p.directory p.searches number x) number)) found
+    ∙ ap (pending_count p.directory) (put_on-same p.searches number (advanced p.directory s) s found)
+    ∙ one_less p.directory s first rest whole waits (sym (ap (turn_of_pending s.id) waits) ∙ sym (ap (turn_of_found p.directory) found) ∙ turn)
 
 by_turn : (p : Agreement) (number : ℕ) (s : SearchState) (first : SyncMessage) (rest : List SyncMessage) (turn : HandOut) → p.consumer_node.search ≡ Some number → search_at p.provider.searches number ≡ Some s
-    → pending s ≡ first ∷ rest → turn_at p.provider.searches number ≡ turn → LeavesLess (suc (length rest)) (sending_by p turn)
+    → pending p.provider.directory s ≡ first ∷ rest → turn_at p.provider.directory p.provider.searches number ≡ turn → LeavesLess (suc (length rest)) (sending_by p turn)
 by_turn p number s first rest (Hands whole) at found waits is =
     let message : List ℕ = message_octets whole in
     let left : left_to_send (agreement_of (handed p.provider p.consumer_node.search) (linked p.consumer_node p.consumer_node.search message) p.lineage) p.consumer_node.search ≡ length rest =
@@ -65,15 +65,15 @@ by_turn p number s first rest (Closes code whole) at found waits is = sends_less
 by_turn p number s first rest Waits at found waits is = tt
 by_turn p number s first rest Unknown at found waits is = tt
 
-by_pending : (p : Agreement) (number : ℕ) (s : SearchState) (waiting : List SyncMessage) → p.consumer_node.search ≡ Some number → search_at p.provider.searches number ≡ Some s → pending s ≡ waiting
-    → turn_at p.provider.searches number ≡ turn_of_pending s.id waiting → LeavesLess (length waiting) (sending_by p (turn_of_pending s.id waiting))
+by_pending : (p : Agreement) (number : ℕ) (s : SearchState) (waiting : List SyncMessage) → p.consumer_node.search ≡ Some number → search_at p.provider.searches number ≡ Some s → pending p.provider.directory s ≡ waiting
+    → turn_at p.provider.directory p.provider.searches number ≡ turn_of_pending s.id waiting → LeavesLess (length waiting) (sending_by p (turn_of_pending s.id waiting))
 by_pending p number s [] at found waits is = tt
 by_pending p number s (first ∷ rest) at found waits is = by_turn p number s first rest (turn_of_message s.id first) at found waits is
 
 by_found : (p : Agreement) (number : ℕ) (found : Option SearchState) → p.consumer_node.search ≡ Some number → search_at p.provider.searches number ≡ found
-    → LeavesLess (pending_count found) (sending_by p (turn_of_found found))
+    → LeavesLess (pending_count p.provider.directory found) (sending_by p (turn_of_found p.provider.directory found))
 by_found p number None at is = tt
-by_found p number (Some s) at is = by_pending p number s (pending s) at is refl (ap turn_of_found is)
+by_found p number (Some s) at is = by_pending p number s (pending p.provider.directory s) at is refl (ap (turn_of_found p.provider.directory) is)
 
 by_search : (p : Agreement) (search : Option ℕ) → p.consumer_node.search ≡ search → LeavesLess (left_to_send p search) (sending_by p (turn_of p.provider search))
 by_search p None at = tt

@@ -84,7 +84,7 @@ pub data Sending : Type 0 where
 -- what the search of this number hands out next
 abbrev pub turn_of : ProviderState → Option ℕ → HandOut
 turn_of p None = Unknown
-turn_of p (Some number) = turn_at p.searches number
+turn_of p (Some number) = turn_at p.directory p.searches number
 
 abbrev pub handed : ProviderState → Option ℕ → ProviderState
 handed p None = p
@@ -308,13 +308,14 @@ opens_anew pair = and_then (idle pair) asked_again
 -- ---- settling
 
 -- how many messages the search of this number has pending
-abbrev pub pending_count : Option SearchState → ℕ
-pending_count None = 0
-pending_count (Some s) = length (pending s)
+abbrev pub pending_count : DirectoryState → Option SearchState → ℕ
+pending_count d None = 0
+pending_count d (Some s) = length (pending d s)
 
 abbrev pub left_to_send : Agreement → Option ℕ → ℕ
 left_to_send pair None = 0
-left_to_send pair (Some number) = pending_count (search_at pair.provider.searches number)
+left_to_send pair (Some number) =
+    pending_count pair.provider.directory (search_at pair.provider.searches number)
 
 -- a message that was sent is taken at once
 abbrev pub ran_before : (Agreement → ExchangeOutcome) → Agreement → Sending → ExchangeOutcome

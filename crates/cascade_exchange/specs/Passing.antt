@@ -31,8 +31,9 @@ pub record IsAhead (p : ProviderState) (search : Option ℕ) (n : ℕ) (ended : 
   pub others : closed (handed_times n p search) (cond ended None search) ≡ closed p search
   pub places :
       ended ≡ false → (number place : ℕ) → search ≡ Some number
-      → turn_at_place (handed_times n p search).searches number place
-      ≡ turn_at_place p.searches number (n + place)
+      → turn_at_place (handed_times n p search).directory (handed_times n p search).searches
+      number place
+      ≡ turn_at_place p.directory p.searches number (n + place)
 
 -- of the consumer only the link is another now
 abbrev pub OnlyLinks : (old new : ConsumerNode) → Type 0

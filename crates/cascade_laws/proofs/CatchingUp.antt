@@ -65,10 +65,10 @@ map_none [] same = refl
 map_none (m ∷ link) same = let never : ⊥ = cc in absurd never
 
 -- the messages that are pending are counted
-pending_counted : (lin : Lineage) (p : ProviderState) (f : ConsumerNode) (mode cut : Bool) (own : Option ℕ) (messages : List SyncMessage) → HasPending p.searches f.consumer.spec mode cut own messages
+pending_counted : (lin : Lineage) (p : ProviderState) (f : ConsumerNode) (mode cut : Bool) (own : Option ℕ) (messages : List SyncMessage) → HasPending p.directory p.searches f.consumer.spec mode cut own messages
     → left_to_send (agreement_of p f lin) own ≡ length messages
 pending_counted lin p f mode cut None messages has = ap length (sym has.0)
-pending_counted lin p f mode cut (Some at) messages has = ap pending_count has.found ∙ ap length has.same
+pending_counted lin p f mode cut (Some at) messages has = ap (pending_count p.directory) has.found ∙ ap length has.same
 
 module _ (lin : Lineage) (number : ℕ) (p : ProviderState) (f : ConsumerNode) (opening : ReportedOpening) (entries : List Entry) (goes : GoesOn number p f opening entries) (drained : IsDrained (agreement_of p f lin)) where
   no_link : goes.session.linked ≡ []
@@ -170,9 +170,9 @@ rests_none pair is = by pair.consumer_node.search refl
     waiting s [] idle = refl
     waiting s (m ∷ messages) idle = absurd (never_idle s.id m idle)
 
-    found : (s : Option SearchState) → IsIdle (turn_of_found s) → pending_count s ≡ 0
+    found : (s : Option SearchState) → IsIdle (turn_of_found pair.provider.directory s) → pending_count pair.provider.directory s ≡ 0
     found None idle = refl
-    found (Some s) idle = waiting s (pending s) idle
+    found (Some s) idle = waiting s (pending pair.provider.directory s) idle
 
     by : (own : Option ℕ) → pair.consumer_node.search ≡ own → left_to_send pair own ≡ 0
     by None at = refl

@@ -3,6 +3,7 @@ use Rattle.std.proofs.Common.{◌≡◌, ◌⊎◌, ◌+◌, ◌<◌, ◌≤◌,
 use Rattle.std.specs.Prelude.{count_by, is_some, map, option_map, slice_get}
 use Rattle.std.specs.Str.{bytes_eq}
 use Rattle.dn_names.specs.Names.{TypeAndValue}
+use Rattle.directory_writes.proofs.Writes.{entries_after-none}
 use Rattle.entry_tree.specs.Selection.{Search}
 use Rattle.entry_tree.proofs.NameKeys.{same_bytes}
 use Rattle.sync_provider.specs.declared.provider.Kind.{Kind}
@@ -21,7 +22,6 @@ use Rattle.cascade_world.proofs.Finding.{IsChanged, found_after, provider_nodes_
 use Rattle.cascade_world.proofs.Found as lookup
 use Rattle.cascade_laws.proofs.Growing.{count_more, AllBecome, grows_itself, sources_changed, rooted_grown, committers_changed, committers_but}
 use Rattle.cascade_laws.proofs.Ordered.{AsksOf, time_still, consumers_still, strangers_still, consumers_asked, strangers_asked, provider_nodes_declared, provider_node_kept}
-use Rattle.cascade_laws.proofs.Rooting.{nothing_written}
 use Rattle.cascade_laws.proofs.Saying.{IsLeft, left_for_new}
 use Rattle.cascade_world.proofs.SameNames.{itself}
 use Rattle.cascade_world.proofs.Climbing.{Climbs, Avoids, AllClimb, all_climb_rerouted, found_above}
@@ -371,7 +371,7 @@ replica_tracked fresh_is rest_is before said state name source search reload r n
     has = record {
       commits = sym (left.commits (state.nodes + 1) (record { time = 0; writes = [] }));
       notes_are = ap (map noted) (sym left.stored);
-      held = nothing_written (state.nodes + 1) ∙ ap (λ (k : Known). k.entries) (sym (left.known nothing_known));
+      held = entries_after-none (state.nodes + 1) ∙ ap (λ (k : Known). k.entries) (sym (left.known nothing_known));
       counted = ap length (sym left.stored);
       each = λ at stored found. let bad : None ≡ Some stored = ap (λ l. slice_get l at) (sym left.stored) ∙ found in let never : ⊥ = cc in absurd never;
     }

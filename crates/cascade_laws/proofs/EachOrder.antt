@@ -1,6 +1,7 @@
 -- Each order keeps what holds of the nodes, and reports lines that are right, by what is known of providers and consumers.
 use Rattle.std.proofs.Common.{◌≡◌, ℕ, Option, Some, None, List, [], ◌∷◌, ◌++◌, refl, sym, subst, ◌∙◌, arith, append-nil, append_assoc}
 use Rattle.std.proofs.lemmas.List.Sums.{fold-append}
+use Rattle.std.proofs.lemmas.Option.{none-some}
 use Rattle.sync_messages.specs.declared.request.Mode.TheVariants.{RefreshOnly, RefreshAndPersist}
 use Rattle.entry_tree.specs.declared.entry.Entry.{Entry}
 use Rattle.sync_wire.proofs.Servable.{SelectedCanBeServed}
@@ -153,25 +154,22 @@ run_tracked known before said state reader (o ∷ orders) (t ∷ report) end res
 
 start_tracked : Tracks [] [] no_nodes
 start_tracked = record {
-  orders = record { time = refl; count = refl; provider_nodes = λ name provider_node e. absurd (none_there e); consumers = λ name f e. absurd (none_there e); strangers = λ name e. refl };
+  orders = record { time = refl; count = refl; provider_nodes = λ name provider_node e. absurd (none-some _ e); consumers = λ name f e. absurd (none-some _ e); strangers = λ name e. refl };
   feeds = record {
     clock = refl;
     few = omega arith;
     counted = omega arith;
-    sources = λ name provider_node e. absurd (none_there e);
-    numbered = record { within = λ name provider_node e. absurd (none_there e); apart = λ name other r s e e' same. absurd (none_there e) };
-    consumer_nodes = λ name f e. absurd (none_there e);
-    apart = λ name other f g e e' apart same. absurd (none_there e);
-    owned = λ name provider_node e at s found. absurd (none_there e);
-    manned = λ name provider_node e. absurd (none_there e);
+    sources = λ name provider_node e. absurd (none-some _ e);
+    numbered = record { within = λ name provider_node e. absurd (none-some _ e); apart = λ name other r s e e' same. absurd (none-some _ e) };
+    consumer_nodes = λ name f e. absurd (none-some _ e);
+    apart = λ name other f g e e' apart same. absurd (none-some _ e);
+    owned = λ name provider_node e at s found. absurd (none-some _ e);
+    manned = λ name provider_node e. absurd (none-some _ e);
     climbs = λ name. ([], name, (refl, refl));
     rooted = λ name. tt;
   };
-  commits = λ name provider_node e. absurd (none_there e);
+  commits = λ name provider_node e. absurd (none-some _ e);
 }
-  where
-    none_there : {X : Type 0} {x : X} → None ≡ Some x → ⊥
-    none_there e = cc
 
 -- a run from no nodes
 pub runs_tracked_by : OrderKnown → (reader : ScriptReader) (orders : List Order) (report : List (List ReportLine)) (end : WorldState) (rest : ScriptReader) → Runs no_nodes reader orders report end rest → HasRun [] [] orders report end

@@ -28,11 +28,13 @@ use Rattle.sync_wire.specs.Requesting.{persists}
 use Rattle.sync_provider.specs.Accepting.{free_number}
 use Rattle.sync_provider.specs.HandingOut.{search_at}
 use Rattle.sync_provider.specs.Machine.{ProviderState}
-use Rattle.sync_provider.specs.Search.{session_of, refresh_from, opening, pending}
+use Rattle.sync_provider.specs.Search.{SearchState, session_of, refresh_from, settled_progress, opening, pending}
 use Rattle.sync_provider.specs.declared.searches.Accepted.{Accepted}
 use Rattle.sync_provider.specs.declared.searches.Accepted.TheVariants as accepted
+use Rattle.sync_provider.proofs.Decided.{opening_decided, pending_decided}
 use Rattle.sync_provider.proofs.Kept.{IsFree, request_free}
 use Rattle.sync_provider.proofs.RefreshTaken.{refresh_some}
+use Rattle.sync_provider.proofs.Refreshes.{first_settled, refresh_from-is}
 use Rattle.sync_provider.proofs.Whereabouts.{where_session}
 use Rattle.cascade_nodes.specs.declared.node.ConsumerNode.{ConsumerNode}
 use Rattle.cascade_nodes.proofs.Fed.{HasRoom, IsAtRest, number_free}
@@ -106,7 +108,21 @@ module _ (lin : Lineage) (number : ℕ) (suffix : Name) (p : ProviderState) (f :
       (subst (λ text. BeginsFrom number writes text (number_of start)) fed.cookie
       (start_from p.directory number (sids_of number suffix p source) (histories_of number suffix p source) f.consumer.copy.cookie))
 
-  rest_is : (opening p.directory message_id f.consumer.spec start persists).rest ≡ refresh_from operation start count
+  -- the session as the directory has it
+  abbrev own_session : SyncOperation
+  own_session = session_of persists p.directory.sid p.directory.history f.consumer.spec writes
+
+  -- the search as it is opened
+  abbrev first_search : SearchState
+  first_search = opening p.directory message_id f.consumer.spec start persists
+
+  -- all of its refresh is decided and pending
+  settled : first_search.progress ≡ settled_progress (length writes) (refresh_from own_session start (length writes)) []
+  settled =
+      first_settled own_session start (length writes)
+      ∙ ap (λ messages. settled_progress (length writes) messages []) (sym (refresh_from-is own_session start (length writes)))
+
+  rest_is : refresh_from own_session start (length writes) ≡ refresh_from operation start count
   rest_is =
       ap (λ sid. refresh_from (session_of persists sid p.directory.history f.consumer.spec writes) start (length writes)) (sids_of number suffix p source)
       ∙ ap (λ history. refresh_from (session_of persists number history f.consumer.spec writes) start (length writes)) (histories_of number suffix p source)
@@ -115,8 +131,11 @@ module _ (lin : Lineage) (number : ℕ) (suffix : Name) (p : ProviderState) (f :
   abbrev ahead : List SyncMessage
   ahead = stream_over number f.consumer.spec writes opened start 0
 
-  pending_is : pending (opening p.directory message_id f.consumer.spec start persists) ≡ ahead
-  pending_is = (λ i. rest_is i ++ sym (none_later persists) i)
+  pending_is : pending p.directory first_search ≡ ahead
+  pending_is =
+      pending_decided first_search (length writes) (opening_decided p.directory message_id f.consumer.spec start persists) p.directory
+      ∙ (λ i. (settled i).rest ++ (settled i).due)
+      ∙ (λ i. rest_is i ++ sym (none_later persists) i)
 
   opened_goes : GoesOn number after (with_search f persists at) opened known.entries
   opened_goes = record {
@@ -137,13 +156,14 @@ module _ (lin : Lineage) (number : ℕ) (suffix : Name) (p : ProviderState) (f :
     };
     link = rest.link;
     search = record {
-      search = opening p.directory message_id f.consumer.spec start persists;
-      found = opened-same p.searches at (opening p.directory message_id f.consumer.spec start persists);
+      search = first_search;
+      found = opened-same p.searches at first_search;
       id = refl;
       spec = refl;
       persists = refl;
       over = refl;
       same = pending_is;
+      decided = opening_decided p.directory message_id f.consumer.spec start persists;
       some = λ waits. prefix_some (refresh_from operation start count) (cond persists (later operation count 0) []) (refresh_some operation start count);
     };
     place = inl (record {
@@ -163,7 +183,7 @@ module _ (lin : Lineage) (number : ℕ) (suffix : Name) (p : ProviderState) (f :
   pub opened_kept : search_at p.searches at ≡ None → IsServedCookie f.consumer.reload number writes known.cookie
       → IsKept number suffix (agreement_of p f lin) (agreement_of after (with_search f persists at) lin) (reported.Opened f.name persists count ∷ []) known
   opened_kept free served = record {
-    source = source-searches number suffix p (insert_entry nat_cmp p.searches at (opening p.directory message_id f.consumer.spec start persists)) (distinct-opened p.searches at (opening p.directory message_id f.consumer.spec start persists) free source.apart) source;
+    source = source-searches number suffix p (insert_entry nat_cmp p.searches at first_search) (distinct-opened p.searches at first_search free source.apart) source;
     fed =
         subst (IsFed number after (with_search f persists at)) (sym own_opening)
         (record {
@@ -176,8 +196,8 @@ module _ (lin : Lineage) (number : ℕ) (suffix : Name) (p : ProviderState) (f :
         });
     right = ((refl, (counted, served)), tt);
     same = refl;
-    others = others-opened lin number p f (with_search f persists at) at (opening p.directory message_id f.consumer.spec start persists) free refl;
-    owns = owns-opened lin p f (with_search f persists at) at (opening p.directory message_id f.consumer.spec start persists) rest.search refl;
+    others = others-opened lin number p f (with_search f persists at) at first_search free refl;
+    owns = owns-opened lin p f (with_search f persists at) at first_search rest.search refl;
     elsewhere = subst (KeepsPromises number f.consumer.spec known) (sym own_opening) (promises-still number f.consumer.spec known);
   }
 

@@ -23,6 +23,7 @@ use Rattle.sync_provider.specs.Law.{Delivers}
 use Rattle.sync_provider.specs.Machine.{ProviderState}
 use Rattle.sync_provider.specs.Search.{whole_walk, busy_end}
 use Rattle.sync_provider.proofs.Advanced.{Searches, moved, place_of, with_searches}
+use Rattle.sync_provider.proofs.SearchNotified.{pending_over}
 use Rattle.sync_provider.proofs.StreamTurns.{IsHanded, IsClosing, stream_turn, refresh_sends}
 use Rattle.cascade_nodes.specs.declared.node.ConsumerNode.{ConsumerNode}
 use Rattle.cascade_nodes.proofs.Fed.{waits, cut_waits, IsPending, HasPending, IsAtRest, IsAfter, turn_is, handed_out, closed_then}
@@ -48,7 +49,7 @@ pub own_sent : (name message : List ℕ) (known : Known) → known_after name kn
 own_sent name message known = ap (λ same. cond same (record known { opening = option_map (with_sent message) known.opening }) known) ((bytes_eq-Decides name name).1 refl)
 
 sent_goes : (number : ℕ) (p : ProviderState) (searches : Searches) (f : ConsumerNode) (own : Option ℕ) (opening : ReportedOpening) (entries : List Entry) (first : SyncMessage) (rest : List SyncMessage)
-    (goes : GoesOn number p f opening entries) → goes.session.pending ≡ first ∷ rest → HasPending searches f.consumer.spec opening.persists goes.session.cut own rest
+    (goes : GoesOn number p f opening entries) → goes.session.pending ≡ first ∷ rest → HasPending p.directory searches f.consumer.spec opening.persists goes.session.cut own rest
     → GoesOn number (with_searches p searches) (linked f own (sent_octets first)) (with_sent (sent_octets first) opening) entries
 sent_goes number p searches f own opening entries first rest goes some has = record {
   session = record {
@@ -97,14 +98,14 @@ module _ (lin : Lineage) (number : ℕ) (suffix : Name) (p : ProviderState) (f :
   before = goes.session.taken ++ goes.session.linked
 
   -- in its place in the Stream, or the end with busy
-  in_place : (cut : Bool) → goes.session.cut ≡ cut → Delivers cut (goes.session.linked ++ goes.session.pending) goes.session.ahead → HasPending p.searches f.consumer.spec opening.persists cut f.search goes.session.pending
+  in_place : (cut : Bool) → goes.session.cut ≡ cut → Delivers cut (goes.session.linked ++ goes.session.pending) goes.session.ahead → HasPending p.directory p.searches f.consumer.spec opening.persists cut f.search goes.session.pending
       → Follows opening.persists Stream before first
   in_place false is left has = inl (rest, place_of goes.session.taken goes.session.linked goes.session.pending rest first Stream some (ap (λ ms. goes.session.taken ++ ms) left ∙ goes.session.whole))
   in_place true is left has = inr (left.left, whole, last, goes.session.lasts is)
     where
-      only : (own : Option ℕ) → HasPending p.searches f.consumer.spec opening.persists true own goes.session.pending → goes.session.pending ≡ busy_end ∷ []
+      only : (own : Option ℕ) → HasPending p.directory p.searches f.consumer.spec opening.persists true own goes.session.pending → goes.session.pending ≡ busy_end ∷ []
       only None has' = let bad : [] ≡ first ∷ rest = sym has'.0 ∙ some in let never : ⊥ = cc in absurd never
-      only (Some at) has' = sym has'.same ∙ ap (λ b. cond b (busy_end ∷ []) (has'.search.rest ++ has'.search.due)) has'.over
+      only (Some at) has' = sym has'.same ∙ pending_over p.directory has'.search has'.over
 
       one : goes.session.pending ≡ busy_end ∷ []
       one = only f.search has
@@ -188,7 +189,7 @@ module _ (lin : Lineage) (number : ℕ) (suffix : Name) (p : ProviderState) (f :
     pub now : GoesOn number after.provider after.consumer_node (with_sent message opening) entries
 
   module _ (known : Known) (latest : known.opening ≡ Some opening) (held : known.entries ≡ entries) (source : IsSource number suffix p) (fed : IsFed number p f known) where
-    linked_is : (later : Searches) (at : ℕ) (own : Option ℕ) → f.search ≡ Some at → IsAfter p.searches later f.consumer.spec opening.persists goes.session.cut at own rest
+    linked_is : (later : Searches) (at : ℕ) (own : Option ℕ) → f.search ≡ Some at → IsAfter p.directory p.searches later f.consumer.spec opening.persists goes.session.cut at own rest
         → IsLinked known (agreement_of (with_searches p later) (linked f own (sent_octets first)) lin) (sent_octets first)
     linked_is later at own is now = record {
       kept = record {
@@ -223,7 +224,7 @@ module _ (lin : Lineage) (number : ℕ) (suffix : Name) (p : ProviderState) (f :
     IsSentOut Overflows = Unit {0}
 
     -- a message is sent where the link has room for it
-    sends_kept : (at : ℕ) (own : Option ℕ) → f.search ≡ Some at → IsAfter p.searches (after_turn p.searches at (turn_at p.searches at)) f.consumer.spec opening.persists goes.session.cut at own rest
+    sends_kept : (at : ℕ) (own : Option ℕ) → f.search ≡ Some at → IsAfter p.directory p.searches (after_turn p.directory p.searches at (turn_at p.directory p.searches at)) f.consumer.spec opening.persists goes.session.cut at own rest
         → IsSentOut (sends (agreement_of p f lin) own (sent_octets first))
     sends_kept at own is now = by (fits f (sent_octets first))
       where
@@ -231,55 +232,55 @@ module _ (lin : Lineage) (number : ℕ) (suffix : Name) (p : ProviderState) (f :
         after ours = agreement_of (handed p ours) (linked f own (sent_octets first)) lin
 
         by : (room : Bool) → IsSentOut (cond room (Sends (after f.search) (sent_octets first)) Overflows)
-        by true = subst (λ ours. IsLinked known (after ours) (sent_octets first)) (sym is) (linked_is (after_turn p.searches at (turn_at p.searches at)) at own is now)
+        by true = subst (λ ours. IsLinked known (after ours) (sent_octets first)) (sym is) (linked_is (after_turn p.directory p.searches at (turn_at p.directory p.searches at)) at own is now)
         by false = tt
 
-    goes_out : (at : ℕ) → f.search ≡ Some at → turn_at p.searches at ≡ Hands (wire.sent message_id first)
-        → IsAfter p.searches (after_turn p.searches at (turn_at p.searches at)) f.consumer.spec opening.persists goes.session.cut at (Some at) rest → IsSentOut (sending_by (agreement_of p f lin) (turn_at p.searches at))
+    goes_out : (at : ℕ) → f.search ≡ Some at → turn_at p.directory p.searches at ≡ Hands (wire.sent message_id first)
+        → IsAfter p.directory p.searches (after_turn p.directory p.searches at (turn_at p.directory p.searches at)) f.consumer.spec opening.persists goes.session.cut at (Some at) rest → IsSentOut (sending_by (agreement_of p f lin) (turn_at p.directory p.searches at))
     goes_out at is turn now =
         subst (λ t. IsSentOut (sending_by (agreement_of p f lin) t)) (sym turn)
         (subst (λ own. IsSentOut (sends (agreement_of p f lin) own (sent_octets first))) (sym is) (sends_kept at (Some at) is now))
 
-    comes_last : (at : ℕ) (code : ℕ) → f.search ≡ Some at → turn_at p.searches at ≡ Closes (pos code) (wire.sent message_id first)
-        → IsAfter p.searches (after_turn p.searches at (turn_at p.searches at)) f.consumer.spec opening.persists goes.session.cut at None rest → IsSentOut (sending_by (agreement_of p f lin) (turn_at p.searches at))
+    comes_last : (at : ℕ) (code : ℕ) → f.search ≡ Some at → turn_at p.directory p.searches at ≡ Closes (pos code) (wire.sent message_id first)
+        → IsAfter p.directory p.searches (after_turn p.directory p.searches at (turn_at p.directory p.searches at)) f.consumer.spec opening.persists goes.session.cut at None rest → IsSentOut (sending_by (agreement_of p f lin) (turn_at p.directory p.searches at))
     comes_last at code is turn now = subst (λ t. IsSentOut (sending_by (agreement_of p f lin) t)) (sym turn) (sends_kept at None is now)
 
     abbrev After : Option ℕ → ℕ → Bool → Type 0
-    After own at cut = IsAfter p.searches (after_turn p.searches at (turn_at p.searches at)) f.consumer.spec opening.persists cut at own rest
+    After own at cut = IsAfter p.directory p.searches (after_turn p.directory p.searches at (turn_at p.directory p.searches at)) f.consumer.spec opening.persists cut at own rest
 
     cut_is : (own : Option ℕ) (at : ℕ) (cut : Bool) → goes.session.cut ≡ cut → After own at cut → After own at goes.session.cut
     cut_is own at cut same now = subst (After own at) (sym same) now
 
-    turn_now : (at : ℕ) → f.search ≡ Some at → (cut : Bool) → goes.session.cut ≡ cut → Delivers cut (goes.session.linked ++ goes.session.pending) goes.session.ahead → IsPending p.searches f.consumer.spec opening.persists cut at goes.session.pending
-        → IsSentOut (sending_by (agreement_of p f lin) (turn_at p.searches at))
+    turn_now : (at : ℕ) → f.search ≡ Some at → (cut : Bool) → goes.session.cut ≡ cut → Delivers cut (goes.session.linked ++ goes.session.pending) goes.session.ahead → IsPending p.directory p.searches f.consumer.spec opening.persists cut at goes.session.pending
+        → IsSentOut (sending_by (agreement_of p f lin) (turn_at p.directory p.searches at))
     turn_now at is false open' left has = by (stream_turn operation goes.session.start opening.writes goes.session.count before rest first whole)
       where
         whole : before ++ first ∷ rest ≡ Stream
         whole = place_of goes.session.taken goes.session.linked goes.session.pending rest first Stream some (ap (λ ms. goes.session.taken ++ ms) left ∙ goes.session.whole)
 
-        turn : turn_at p.searches at ≡ turn_of_message message_id first
-        turn = turn_is p.searches at has.search first rest has.found (has.same ∙ some) has.id
+        turn : turn_at p.directory p.searches at ≡ turn_of_message message_id first
+        turn = turn_is p.directory p.searches at has.search first rest has.found (has.same ∙ some) has.id
 
         no_wait : (b : Bool) → waits b false ≡ false → b ≡ false
         no_wait true bad = absurd (true≢false bad)
         no_wait false good = refl
 
-        by : IsHanded operation.persists first rest ⊎ IsClosing operation.persists first rest → IsSentOut (sending_by (agreement_of p f lin) (turn_at p.searches at))
+        by : IsHanded operation.persists first rest ⊎ IsClosing operation.persists first rest → IsSentOut (sending_by (agreement_of p f lin) (turn_at p.directory p.searches at))
         by (inl hands) =
             let now = turn ∙ hands.turn in
             goes_out at is now
-            (cut_is (Some at) at false open' (handed_out p.searches f.consumer.spec opening.persists at goes.session.pending rest first has some now (λ w. hands.more (no_wait opening.persists w)) source.apart))
+            (cut_is (Some at) at false open' (handed_out p.directory p.searches f.consumer.spec opening.persists at goes.session.pending rest first has some now (λ w. hands.more (no_wait opening.persists w)) source.apart))
         by (inr closes) =
             let now = turn ∙ closes.turn in
             comes_last at 0 is now
-            (cut_is None at false open' (closed_then p.searches f.consumer.spec opening.persists false at (Closes (pos SUCCESS) (wire.sent message_id first)) rest now refl closes.none
+            (cut_is None at false open' (closed_then p.directory p.searches f.consumer.spec opening.persists false at (Closes (pos SUCCESS) (wire.sent message_id first)) rest now refl closes.none
             (ap (λ b. waits b false) closes.ends) source.apart))
     turn_now at is true closed' left has =
         comes_last at BUSY is now
-        (cut_is None at true closed' (closed_then p.searches f.consumer.spec opening.persists true at (Closes (pos BUSY) (wire.sent message_id first)) rest now refl none (cut_waits opening.persists) source.apart))
+        (cut_is None at true closed' (closed_then p.directory p.searches f.consumer.spec opening.persists true at (Closes (pos BUSY) (wire.sent message_id first)) rest now refl none (cut_waits opening.persists) source.apart))
       where
         one : goes.session.pending ≡ busy_end ∷ []
-        one = sym has.same ∙ ap (λ b. cond b (busy_end ∷ []) (has.search.rest ++ has.search.due)) has.over
+        one = sym has.same ∙ pending_over p.directory has.search has.over
 
         last : first ≡ busy_end
         last = heads first busy_end rest [] (sym some ∙ one)
@@ -287,14 +288,14 @@ module _ (lin : Lineage) (number : ℕ) (suffix : Name) (p : ProviderState) (f :
         none : rest ≡ []
         none = tails first busy_end rest [] (sym some ∙ one)
 
-        now : turn_at p.searches at ≡ Closes (pos BUSY) (wire.sent message_id first)
+        now : turn_at p.directory p.searches at ≡ Closes (pos BUSY) (wire.sent message_id first)
         now =
-            turn_is p.searches at has.search first rest has.found (has.same ∙ some) has.id
+            turn_is p.directory p.searches at has.search first rest has.found (has.same ∙ some) has.id
             ∙ ap (turn_of_message message_id) last
             ∙ ap (λ m. Closes (pos BUSY) (wire.sent message_id m)) (sym last)
 
     -- what is handed out next goes into the link, and the consumer is fed as before
-    pub pending_kept : (at : ℕ) → f.search ≡ Some at → IsPending p.searches f.consumer.spec opening.persists goes.session.cut at goes.session.pending → IsSentOut (sending_by (agreement_of p f lin) (turn_at p.searches at))
+    pub pending_kept : (at : ℕ) → f.search ≡ Some at → IsPending p.directory p.searches f.consumer.spec opening.persists goes.session.cut at goes.session.pending → IsSentOut (sending_by (agreement_of p f lin) (turn_at p.directory p.searches at))
     pending_kept at is has = turn_now at is goes.session.cut refl goes.session.left has
 
 -- what a consumer whose search goes on is sent
@@ -312,24 +313,24 @@ going_sent lin number suffix p f known opening latest source fed goes = by f.sea
     Good : Sending → Type 0
     Good s = GoingSent number suffix (agreement_of p f lin) known opening s
 
-    some_sent : (at : ℕ) → f.search ≡ Some at → IsPending p.searches f.consumer.spec opening.persists goes.session.cut at goes.session.pending → (first : SyncMessage) (rest : List SyncMessage) → goes.session.pending ≡ first ∷ rest
-        → Good (sending_by (agreement_of p f lin) (turn_at p.searches at))
-    some_sent at is has first rest some = both (sending_by (agreement_of p f lin) (turn_at p.searches at)) (pending_kept lin number suffix p f opening known.entries goes first rest some known latest refl source fed at is has)
+    some_sent : (at : ℕ) → f.search ≡ Some at → IsPending p.directory p.searches f.consumer.spec opening.persists goes.session.cut at goes.session.pending → (first : SyncMessage) (rest : List SyncMessage) → goes.session.pending ≡ first ∷ rest
+        → Good (sending_by (agreement_of p f lin) (turn_at p.directory p.searches at))
+    some_sent at is has first rest some = both (sending_by (agreement_of p f lin) (turn_at p.directory p.searches at)) (pending_kept lin number suffix p f opening known.entries goes first rest some known latest refl source fed at is has)
       where
         both : (s : Sending) → IsSentOut lin number suffix p f opening known.entries goes first rest some known latest refl source fed s → Good s
         both (Sends after message) is' = (is'.kept, is'.now)
         both Rests is' = absurd is'
         both Overflows is' = tt
 
-    none_sent : (at : ℕ) → IsPending p.searches f.consumer.spec opening.persists goes.session.cut at goes.session.pending → goes.session.pending ≡ [] → Good (sending_by (agreement_of p f lin) (turn_at p.searches at))
+    none_sent : (at : ℕ) → IsPending p.directory p.searches f.consumer.spec opening.persists goes.session.cut at goes.session.pending → goes.session.pending ≡ [] → Good (sending_by (agreement_of p f lin) (turn_at p.directory p.searches at))
     none_sent at has none =
-        subst (λ t. Good (sending_by (agreement_of p f lin) t)) (sym (ap turn_of_found has.found ∙ ap (turn_of_pending has.search.id) (has.same ∙ none))) tt
+        subst (λ t. Good (sending_by (agreement_of p f lin) t)) (sym (ap (turn_of_found p.directory) has.found ∙ ap (turn_of_pending has.search.id) (has.same ∙ none))) tt
 
-    by : (own : Option ℕ) → f.search ≡ own → HasPending p.searches f.consumer.spec opening.persists goes.session.cut own goes.session.pending → Good (sending_by (agreement_of p f lin) (turn_of p own))
+    by : (own : Option ℕ) → f.search ≡ own → HasPending p.directory p.searches f.consumer.spec opening.persists goes.session.cut own goes.session.pending → Good (sending_by (agreement_of p f lin) (turn_of p own))
     by None is has = tt
     by (Some at) is has = pend goes.session.pending refl
       where
-        pend : (messages : List SyncMessage) → goes.session.pending ≡ messages → Good (sending_by (agreement_of p f lin) (turn_at p.searches at))
+        pend : (messages : List SyncMessage) → goes.session.pending ≡ messages → Good (sending_by (agreement_of p f lin) (turn_at p.directory p.searches at))
         pend [] none = none_sent at has none
         pend (first ∷ rest) some = some_sent at is has first rest some
 

@@ -85,7 +85,7 @@ pub record IsUnderWay (number : ℕ) (search : Search) (writes : List Write) (op
 pub record GoesOn (number : ℕ) (p : ProviderState) (f : ConsumerNode) (opening : ReportedOpening) (entries : List Entry) : Type 0 where
   pub session : IsUnderWay number f.consumer.spec p.directory.writes opening
   pub link : f.link ≡ map sent_octets session.linked
-  pub search : HasPending p.searches f.consumer.spec opening.persists session.cut f.search session.pending
+  pub search : HasPending p.directory p.searches f.consumer.spec opening.persists session.cut f.search session.pending
   pub place : IsWhere (session_over number f.consumer.spec p.directory.writes opening) session.start opening.writes session.count entries f.consumer.copy session.taken session.ahead
 
 -- the search of the latest opening goes on

@@ -3,11 +3,11 @@ use Rattle.std.proofs.Common.{◌≡◌, ◌+◌, ◌≤◌, ℕ, zero, suc, Boo
 use Rattle.std.proofs.lemmas.Bool.{cases_Bool}
 use Rattle.std.proofs.lemmas.Option.{slice_get-map}
 use Rattle.std.specs.Prelude.{is_some, IfSome, map, slice_get, option_map}
-use Rattle.entry_tree.specs.History.{state_from}
 use Rattle.entry_tree.specs.Selection.{Search, select, is_same_search}
 use Rattle.entry_tree.specs.declared.entry.Entry.{Entry}
 use Rattle.entry_tree.specs.declared.op.Write.{Write}
 use Rattle.entry_tree.proofs.Selecting.{select_through}
+use Rattle.directory_writes.proofs.Writes.{entries_after-none}
 use Rattle.directory_writes.specs.Directory.{entries_after}
 use Rattle.sync_provider.specs.declared.provider.Kind.{Kind}
 use Rattle.sync_provider.specs.declared.provider.Kind.TheVariants.{Root, Replica}
@@ -86,11 +86,6 @@ rooted_at provider_nodes (s ∷ more) zero one is e =
     let same : s ≡ one = cc in subst (λ (x : Storing). IfSome x.origin (IsRooted provider_nodes x.search x.entries)) same is.0
 rooted_at provider_nodes (s ∷ more) (suc at) one is e = rooted_at provider_nodes more at one is.1 e
 
--- without writes there are no entries
-pub nothing_written : (number : ℕ) → entries_after number [] ≡ []
-unfolding state_from
-nothing_written number = refl
-
 -- what is wanted of a commit, where it is the same as the replica wanted
 passed_rooted : (provider_nodes : List ProviderNode) (search : Search) (content : List Entry) (found : Option Storing) → ((one : Storing) → found ≡ Some one → (content ≡ one.entries) × IfSome one.origin (IsRooted provider_nodes one.search one.entries))
     → IfSome (reported_origin search found) (IsRooted provider_nodes search (select search content))
@@ -148,7 +143,7 @@ origin_rooted said state name r search n feeds commits e low = by r.provider.kin
           there = ap (provider_nodes_by provider_nodes) top ∙ root.there;
           root = root.root;
           prefix = omega arith;
-          exactly = ap (select search) (nothing_written number ∙ sym (nothing_written root.provider_node.provider.directory.history));
+          exactly = ap (select search) (entries_after-none number ∙ sym (entries_after-none root.provider_node.provider.directory.history));
         }
     by Replica is (suc at) low manned committed =
         let stored = stored_of r.name said in

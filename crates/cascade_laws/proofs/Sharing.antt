@@ -21,7 +21,7 @@ going-other : (number : ℕ) (p : ProviderState) (later : Searches) (g : Consume
 going-other number p later g opening entries stays goes = record {
   session = goes.session;
   link = goes.link;
-  search = pending-other p.searches later g.consumer.spec opening.persists goes.session.cut g.search goes.session.pending stays goes.search;
+  search = pending-other p.directory p.searches later g.consumer.spec opening.persists goes.session.cut g.search goes.session.pending stays goes.search;
   place = goes.place;
 }
 
@@ -46,7 +46,7 @@ fed_search number p g known at is fed = by fed.state
   where
     by : IsAtRest g ⊎ IsGoing number p g known → (s : SearchState) × (search_at p.searches at ≡ Some s)
     by (inl rest) = let none = rest.search in let never : ⊥ = cc in absurd never
-    by (inr going) = let goes = going.goes in own_search p.searches g.consumer.spec going.opening.persists goes.session.cut g.search at goes.session.pending is goes.search
+    by (inr going) = let goes = going.goes in own_search p.directory p.searches g.consumer.spec going.opening.persists goes.session.cut g.search at goes.session.pending is goes.search
 
 -- ---- what a change of one search keeps
 

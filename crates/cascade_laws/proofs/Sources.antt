@@ -23,7 +23,8 @@ use Rattle.directory_writes.specs.declared.commit.DirectoryCommitFault.TheVarian
 use Rattle.directory_writes.proofs.Commits.{commit_open}
 use Rattle.directory_writes.proofs.Judged.{IsJudged, judged_is}
 use Rattle.directory_writes.proofs.Csns.{rises-none, rises-push, next_rises}
-use Rattle.directory_writes.proofs.Writes.{entries_after-push, last_csn-push}
+use Rattle.directory_writes.proofs.Csns.{last_csn-push}
+use Rattle.directory_writes.proofs.Writes.{entries_after-push}
 use Rattle.directory_writes.proofs.Distinct.{changed-was, distinct-changed}
 use Rattle.directory_writes.proofs.Promised.{IsPromised, prefix-push, prefixes-push, promised-push}
 use Rattle.entry_tree.specs.Codes.{code_of}
@@ -53,12 +54,13 @@ use Rattle.sync_provider.specs.declared.provider.Kind.TheVariants.{Root, Replica
 use Rattle.sync_provider.specs.declared.writing.CommitFault.{CommitFault}
 use Rattle.sync_provider.specs.declared.writing.CommitFault.TheVariants as fault
 use Rattle.sync_provider.proofs.Commits.{or_none, unopposed}
-use Rattle.sync_provider.proofs.Growing.{search_notified_at, stream_more}
-use Rattle.sync_provider.proofs.SearchNotified.{pending_over, IsSame, search_notified_same, search_notified_ends, delivers_longer, search_notified_delivers}
+use Rattle.sync_provider.proofs.Decided.{IsDecided, delivers_longer, pending_decided, search_notified_decided, search_notified_delivers, search_notified_ends, stream_more}
+use Rattle.sync_provider.proofs.Growing.{search_notified_at}
+use Rattle.sync_provider.proofs.SearchNotified.{pending_over, IsSame, search_notified_same}
 use Rattle.sync_provider.proofs.Longer.{new, stream_same, place_longer, place_grows}
 use Rattle.sync_provider.proofs.Whereabouts.{IsWhere}
 use Rattle.cascade_nodes.specs.declared.node.ConsumerNode.{ConsumerNode}
-use Rattle.cascade_nodes.proofs.Fed.{waits, IsPending, HasPending, IsAtRest}
+use Rattle.cascade_nodes.proofs.Fed.{waits, IsPending, HasPending, IsAtRest, pending-logged}
 use Rattle.cascade_world.specs.Cookies.{held_cookie}
 use Rattle.cascade_world.specs.Directory.{logged_directory, wrote_read}
 use Rattle.cascade_laws.specs.Headline.{ReportedOpening, Known, BeginsFrom, session_over, stream_over}
@@ -181,16 +183,16 @@ module _ (number : ℕ) (suffix : Name) (p : ProviderState) (w : Write) (source 
     lasts : cut ≡ true → opening.persists ≡ true
     pending : List SyncMessage
     left : Delivers cut (goes.session.linked ++ pending) (goes.session.ahead ++ next)
-    search : HasPending after.searches g.consumer.spec opening.persists cut g.search pending
+    search : HasPending after.directory after.searches g.consumer.spec opening.persists cut g.search pending
 
   -- a search that is over at the provider, whose last messages are in the link
-  closed_search_notified : g.search ≡ None → waits opening.persists goes.session.cut ≡ false → HasPending p.searches g.consumer.spec opening.persists goes.session.cut None goes.session.pending → IsSearchNotified
+  closed_search_notified : g.search ≡ None → waits opening.persists goes.session.cut ≡ false → HasPending p.directory p.searches g.consumer.spec opening.persists goes.session.cut None goes.session.pending → IsSearchNotified
   closed_search_notified own ends has = record {
     cut = goes.session.cut;
     lasts = goes.session.lasts;
     pending = goes.session.pending;
     left = by opening.persists goes.session.cut refl ends;
-    search = subst (λ o. HasPending after.searches g.consumer.spec opening.persists goes.session.cut o goes.session.pending) (sym own) has;
+    search = subst (λ o. HasPending after.directory after.searches g.consumer.spec opening.persists goes.session.cut o goes.session.pending) (sym own) has;
   }
     where
       by : (persists cut : Bool) → goes.session.cut ≡ cut → waits persists cut ≡ false
@@ -200,7 +202,7 @@ module _ (number : ℕ) (suffix : Name) (p : ProviderState) (w : Write) (source 
       by true false is bad = absurd (true≢false bad)
 
   -- a search that is open
-  module _ (at : ℕ) (own : g.search ≡ Some at) (has : IsPending p.searches g.consumer.spec opening.persists goes.session.cut at goes.session.pending) where
+  module _ (at : ℕ) (own : g.search ≡ Some at) (has : IsPending p.directory p.searches g.consumer.spec opening.persists goes.session.cut at goes.session.pending) where
     abbrev now : SearchState
     now = search_notified p.queue_limit p.directory w has.search
 
@@ -215,16 +217,23 @@ module _ (number : ℕ) (suffix : Name) (p : ProviderState) (w : Write) (source 
     sent_is : cond has.search.persists (group_of p.directory has.search w) [] ≡ next
     sent_is = λ i. cond (has.persists i) ((group_is ∙ ap (group longer) (sym goes.session.upto)) i) []
 
-    delivers_now : Delivers now.over (goes.session.linked ++ pending now) (goes.session.ahead ++ next)
+    delivers_now : Delivers now.over (goes.session.linked ++ pending after.directory now) (goes.session.ahead ++ next)
     delivers_now =
-        subst (λ sent. Delivers now.over (goes.session.linked ++ pending now) (goes.session.ahead ++ sent)) sent_is
-        (search_notified_delivers p.queue_limit p.directory w has.search goes.session.linked goes.session.ahead
-        (subst (λ o. Delivers o (goes.session.linked ++ pending has.search) goes.session.ahead) (sym has.over)
+        subst (λ sent. Delivers now.over (goes.session.linked ++ pending after.directory now) (goes.session.ahead ++ sent)) sent_is
+        (search_notified_delivers has.search has.search.accepted has.decided p.queue_limit p.directory w goes.session.linked goes.session.ahead
+        (subst (λ o. Delivers o (goes.session.linked ++ pending p.directory has.search) goes.session.ahead) (sym has.over)
         (subst (λ ms. Delivers goes.session.cut (goes.session.linked ++ ms) goes.session.ahead) (sym has.same) goes.session.left)))
 
     -- one that ends with its refresh is as before
     still : opening.persists ≡ false → now ≡ has.search
-    still ends = search_notified_ends p.queue_limit p.directory w has.search (has.persists ∙ ends)
+    still ends = search_notified_ends has.search has.search.accepted has.decided p.queue_limit p.directory w (has.persists ∙ ends)
+
+    -- what was pending of it is so on the directory after the write
+    waiting : pending after.directory has.search ≡ goes.session.pending
+    waiting =
+        pending_decided has.search has.search.accepted has.decided after.directory
+        ∙ sym (pending_decided has.search has.search.accepted has.decided p.directory)
+        ∙ has.same
 
     lasts_now : now.over ≡ true → opening.persists ≡ true
     lasts_now on = by opening.persists refl
@@ -233,22 +242,27 @@ module _ (number : ℕ) (suffix : Name) (p : ProviderState) (w : Write) (source 
         by true is = is
         by false is = goes.session.lasts (sym (ap (λ (s : SearchState). s.over) (still is) ∙ has.over) ∙ on)
 
-    some_now : waits opening.persists now.over ≡ false → HasNext (pending now)
+    some_now : waits opening.persists now.over ≡ false → HasNext (pending after.directory now)
     some_now none = by opening.persists refl now.over refl
       where
-        by : (persists : Bool) → opening.persists ≡ persists → (over : Bool) → now.over ≡ over → HasNext (pending now)
-        by true mode true on = record { next = busy_end; later = []; same = pending_over now on }
+        by : (persists : Bool) → opening.persists ≡ persists → (over : Bool) → now.over ≡ over → HasNext (pending after.directory now)
+        by true mode true on = record { next = busy_end; later = []; same = pending_over after.directory now on }
         by true mode false off = absurd (true≢false (sym (λ i. waits (mode i) (off i)) ∙ none))
-        by false mode over is = subst HasNext (sym (ap pending (still mode) ∙ has.same)) (has.some (ap (λ b. waits b goes.session.cut) mode))
+        by false mode over is = subst HasNext (sym (ap (pending after.directory) (still mode) ∙ waiting)) (has.some (ap (λ b. waits b goes.session.cut) mode))
+
+    decided_now : IsDecided now.accepted now.progress
+    decided_now =
+        subst (λ count. IsDecided count now.progress) (sym is_same.accepted)
+        (search_notified_decided p.queue_limit p.directory w has.search has.search.accepted has.decided)
 
     open_search_notified : IsSearchNotified
     open_search_notified = record {
       cut = now.over;
       lasts = lasts_now;
-      pending = pending now;
+      pending = pending after.directory now;
       left = delivers_now;
       search =
-          subst (λ o. HasPending after.searches g.consumer.spec opening.persists now.over o (pending now)) (sym own) (record {
+          subst (λ o. HasPending after.directory after.searches g.consumer.spec opening.persists now.over o (pending after.directory now)) (sym own) (record {
             search = now;
             found = search_notified_at p.queue_limit p.directory w p.searches at has.search has.found;
             id = is_same.id ∙ has.id;
@@ -256,6 +270,7 @@ module _ (number : ℕ) (suffix : Name) (p : ProviderState) (w : Write) (source 
             persists = is_same.persists ∙ has.persists;
             over = refl;
             same = refl;
+            decided = decided_now;
             some = some_now;
           });
     }
@@ -263,7 +278,7 @@ module _ (number : ℕ) (suffix : Name) (p : ProviderState) (w : Write) (source 
   is_search_notified : IsSearchNotified
   is_search_notified = by g.search refl goes.search
     where
-      by : (own : Option ℕ) → g.search ≡ own → HasPending p.searches g.consumer.spec opening.persists goes.session.cut own goes.session.pending → IsSearchNotified
+      by : (own : Option ℕ) → g.search ≡ own → HasPending p.directory p.searches g.consumer.spec opening.persists goes.session.cut own goes.session.pending → IsSearchNotified
       by None own has = closed_search_notified own has.1 has
       by (Some at) own has = open_search_notified at own has
 
@@ -506,9 +521,10 @@ commits_are_kept number suffix p puts drops now source replica good = commit_is 
 -- ---- limits
 
 -- another log, or another limit
-going-limited : (number : ℕ) (p q : ProviderState) (g : ConsumerNode) (opening : ReportedOpening) (entries : List Entry) → q.directory.writes ≡ p.directory.writes → q.searches ≡ p.searches
+going-limited : (number : ℕ) (p q : ProviderState) (g : ConsumerNode) (opening : ReportedOpening) (entries : List Entry) → q.directory.writes ≡ p.directory.writes
+    → q.directory.sid ≡ p.directory.sid → q.directory.history ≡ p.directory.history → q.searches ≡ p.searches
     → GoesOn number p g opening entries → GoesOn number q g opening entries
-going-limited number p q g opening entries writes searches goes = record {
+going-limited number p q g opening entries writes sids histories searches goes = record {
   session = record {
     count = goes.session.count;
     upto = goes.session.upto ∙ ap (λ (ws : List Write). length ws) (sym writes);
@@ -525,13 +541,16 @@ going-limited number p q g opening entries writes searches goes = record {
     reported = goes.session.reported;
   };
   link = goes.link;
-  search = subst (λ es. HasPending es g.consumer.spec opening.persists goes.session.cut g.search goes.session.pending) (sym searches) goes.search;
+  search =
+      subst (λ es. HasPending q.directory es g.consumer.spec opening.persists goes.session.cut g.search goes.session.pending) (sym searches)
+      (pending-logged p.directory q.directory p.searches g.consumer.spec opening.persists goes.session.cut g.search goes.session.pending sids histories writes goes.search);
   place = subst (λ ws. IsWhere (session_over number g.consumer.spec ws opening) goes.session.start opening.writes goes.session.count entries g.consumer.copy goes.session.taken goes.session.ahead) (sym writes) goes.place;
 }
 
-fed-limited : (number : ℕ) (p q : ProviderState) (g : ConsumerNode) (known : Known) → q.directory.writes ≡ p.directory.writes → q.directory.suffix ≡ p.directory.suffix → q.searches ≡ p.searches
+fed-limited : (number : ℕ) (p q : ProviderState) (g : ConsumerNode) (known : Known) → q.directory.writes ≡ p.directory.writes → q.directory.suffix ≡ p.directory.suffix
+    → q.directory.sid ≡ p.directory.sid → q.directory.history ≡ p.directory.history → q.searches ≡ p.searches
     → IsFed number p g known → IsFed number q g known
-fed-limited number p q g known writes suffix searches fed = record {
+fed-limited number p q g known writes suffix sids histories searches fed = record {
   held = fed.held;
   ascending = fed.ascending;
   cookie = fed.cookie;
@@ -542,7 +561,7 @@ fed-limited number p q g known writes suffix searches fed = record {
   where
     by : IsAtRest g ⊎ IsGoing number p g known → IsAtRest g ⊎ IsGoing number q g known
     by (inl rest) = inl rest
-    by (inr going) = inr (record { opening = going.opening; latest = going.latest; goes = going-limited number p q g going.opening known.entries writes searches going.goes })
+    by (inr going) = inr (record { opening = going.opening; latest = going.latest; goes = going-limited number p q g going.opening known.entries writes sids histories searches going.goes })
 
 -- so does another limit of the session log
 pub limits_are_kept : LimitsAreKept
@@ -558,7 +577,7 @@ limits_are_kept number suffix p limit source = record {
     few = source.few;
     apart = source.apart;
   };
-  fed = λ g known fed. fed-limited number p (log_limited p limit) g known refl refl refl fed;
+  fed = λ g known fed. fed-limited number p (log_limited p limit) g known refl refl refl refl refl fed;
   opens = λ at s found. (s, found);
   kind = refl;
   later = [];
@@ -579,7 +598,7 @@ queues_are_kept number suffix p limit source = record {
     few = source.few;
     apart = source.apart;
   };
-  fed = λ g known fed. fed-limited number p (queue_limited p limit) g known refl refl refl fed;
+  fed = λ g known fed. fed-limited number p (queue_limited p limit) g known refl refl refl refl refl fed;
   opens = λ at s found. (s, found);
   kind = refl;
   later = [];

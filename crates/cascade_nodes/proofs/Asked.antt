@@ -1,5 +1,5 @@
 -- A provider of a script: its answers, and the message ID of its searches.
-use Rattle.std.proofs.Common.{◌≡◌, ◌≢◌, ◌≤◌, ℕ, Bool, true, false, cond, Option, Some, None, List, [], ◌∷◌, ◌++◌, drop, refl, ap, sym, subst, ◌∙◌, arith, eq-eqb, eqb-true}
+use Rattle.std.proofs.Common.{◌≡◌, ◌≢◌, ◌≤◌, ℕ, Bool, true, false, Option, Some, None, List, [], ◌∷◌, drop, refl, ap, sym, subst, ◌∙◌, arith, eq-eqb, eqb-true}
 use Rattle.std.specs.BTreeMap.{insert_entry}
 use Rattle.std.specs.Ordering.{nat_cmp}
 use Rattle.std.specs.Prelude.{◌==◌, Ok, Err, Result, IfSome}
@@ -19,10 +19,10 @@ use Rattle.sync_messages.specs.declared.request.SyncRequest.{SyncRequest}
 use Rattle.sync_model.specs.Message.{SyncMessage}
 use Rattle.sync_model.specs.Message.SyncMessage.{AddOrModify, Delete, Present, IdSet, NewCookie, RefreshDelete, RefreshPresent, Done, Ignored}
 use Rattle.sync_provider.specs.Accepting as accepting
-use Rattle.sync_provider.specs.HandingOut.{HandOut, turn_of_message, turn_of_pending, turn_of_found, turn_of_place, turn_at, turn_at_place, turn_of, search_at, without_first, closed, handed_on, after_turn, after_a_turn}
+use Rattle.sync_provider.specs.HandingOut.{HandOut, turn_of_message, turn_of_pending, turn_of_found, turn_of_place, turn_at, turn_at_place, turn_of, search_at, closed, handed_on, after_turn, after_a_turn}
 use Rattle.sync_provider.specs.HandingOut.HandOut.{Hands, Closes, Waits, Unknown}
 use Rattle.sync_provider.specs.Machine.{ProviderState, each_search_notified, searches_after, judged_by, wrote, after_commit, committed, committed_each}
-use Rattle.sync_provider.specs.Queueing.{overflowed, queued, pushed, search_notified, is_full, group_of, is_queueing}
+use Rattle.sync_provider.specs.Queueing.{search_notified}
 use Rattle.sync_provider.specs.Placing.{put_back}
 use Rattle.sync_provider.specs.Returning.{KeptSearch, snapshot_of}
 use Rattle.sync_provider.specs.Search.{SearchState, pending, opening, advanced}
@@ -33,6 +33,7 @@ use Rattle.sync_provider.specs.declared.searches.Accepted.{Accepted}
 use Rattle.sync_provider.specs.declared.searches.Accepted.TheVariants as accepted
 use Rattle.sync_provider.specs.declared.searches.SyncSearch.{SyncSearch}
 use Rattle.sync_provider.proofs.Looking.{each-opened, each-closed, each-put_on, each-at}
+use Rattle.sync_provider.proofs.SearchNotified.{search_notified_same}
 use Rattle.cascade_nodes.specs.Opening.{message_id, answer_to, answer_to_request, after_accepted}
 use Rattle.cascade_nodes.specs.Ours.{IsOurs, AreOurs, IsSpelled}
 
@@ -61,23 +62,8 @@ accepted_state p after ask accepted.NoMemory id is = is
 
 -- ---- writes
 
-queued_ours : (limit : ℕ) (s : SearchState) (items : List SyncMessage) → IsOurs s → IsOurs (queued limit s items)
-queued_ours limit s items ours = by (is_full limit items)
-  where
-    by : (full : Bool) → IsOurs (cond full (overflowed s) (record s { due = items }))
-    by true = ours
-    by false = ours
-
-pushed_ours : (limit : ℕ) (s : SearchState) (items : List SyncMessage) → IsOurs s → IsOurs (pushed limit items s)
-pushed_ours limit s [] ours = ours
-pushed_ours limit s (message ∷ messages) ours = queued_ours limit s (s.due ++ message ∷ messages) ours
-
 search_notified_ours : (limit : ℕ) (d : DirectoryState) (write : Write) (s : SearchState) → IsOurs s → IsOurs (search_notified limit d write s)
-search_notified_ours limit d write s ours = by (is_queueing s)
-  where
-    by : (queueing : Bool) → IsOurs (cond queueing (pushed limit (group_of d s write) s) s)
-    by true = pushed_ours limit s (group_of d s write) ours
-    by false = ours
+search_notified_ours limit d write s ours = (search_notified_same limit d write s).id ∙ ours
 
 each_ours : (limit : ℕ) (d : DirectoryState) (write : Write) (searches : List (ℕ × SearchState)) → AreOurs searches → AreOurs (each_search_notified limit d write searches)
 each_ours limit d write [] ours = tt
@@ -131,26 +117,21 @@ put_back_ours es number (Some s) ours one = each-opened IsOurs es number s ours 
 
 -- ---- turns
 
-first_ours : (s : SearchState) (rest due : List SyncMessage) → IsOurs s → IsOurs (advanced s rest due)
-first_ours s [] [] ours = ours
-first_ours s [] (message ∷ due) ours = ours
-first_ours s (message ∷ rest) due ours = ours
-
-on_ours : (es : List (ℕ × SearchState)) (number : ℕ) (found : Option SearchState) → search_at es number ≡ found → AreOurs es → AreOurs (handed_on es number found)
-on_ours es number None at ours = ours
-on_ours es number (Some s) at ours = each-put_on IsOurs es number (without_first s) ours (first_ours s s.rest s.due (each-at IsOurs es number s ours at))
+on_ours : (d : DirectoryState) (es : List (ℕ × SearchState)) (number : ℕ) (found : Option SearchState) → search_at es number ≡ found → AreOurs es → AreOurs (handed_on d es number found)
+on_ours d es number None at ours = ours
+on_ours d es number (Some s) at ours = each-put_on IsOurs es number (advanced d s) ours (each-at IsOurs es number s ours at)
 
 -- the searches after a turn
-pub after_ours : (es : List (ℕ × SearchState)) (number : ℕ) (turn : HandOut) → AreOurs es → AreOurs (after_turn es number turn)
-after_ours es number (Hands message) ours = on_ours es number (search_at es number) refl ours
-after_ours es number (Closes code message) ours = each-closed IsOurs es number ours
-after_ours es number Waits ours = ours
-after_ours es number Unknown ours = ours
+pub after_ours : (d : DirectoryState) (es : List (ℕ × SearchState)) (number : ℕ) (turn : HandOut) → AreOurs es → AreOurs (after_turn d es number turn)
+after_ours d es number (Hands message) ours = on_ours d es number (search_at es number) refl ours
+after_ours d es number (Closes code message) ours = each-closed IsOurs es number ours
+after_ours d es number Waits ours = ours
+after_ours d es number Unknown ours = ours
 
 -- so they have after a hand-out
-pub turn_ours : (es : List (ℕ × SearchState)) (number : ℕ) (turn : Option HandOut) → AreOurs es → AreOurs (after_a_turn es number turn)
-turn_ours es number None ours = ours
-turn_ours es number (Some turn) ours = after_ours es number turn ours
+pub turn_ours : (d : DirectoryState) (es : List (ℕ × SearchState)) (number : ℕ) (turn : Option HandOut) → AreOurs es → AreOurs (after_a_turn d es number turn)
+turn_ours d es number None ours = ours
+turn_ours d es number (Some turn) ours = after_ours d es number turn ours
 
 -- so they have after one of them is closed
 pub dropped_ours : (es : List (ℕ × SearchState)) (number : ℕ) → AreOurs es → AreOurs (closed es number)
@@ -179,14 +160,14 @@ of_pending : (id : ℕ) (pending : List SyncMessage) → id ≤ 2147483647 → I
 of_pending id [] small = tt
 of_pending id (message ∷ rest) small = of_message id message small
 
-of_found : (es : List (ℕ × SearchState)) (number : ℕ) (found : Option SearchState) → search_at es number ≡ found → AreOurs es → IsSpelledTurn (turn_of_found found)
-of_found es number None at ours = tt
-of_found es number (Some s) at ours =
+of_found : (d : DirectoryState) (es : List (ℕ × SearchState)) (number : ℕ) (found : Option SearchState) → search_at es number ≡ found → AreOurs es → IsSpelledTurn (turn_of_found d found)
+of_found d es number None at ours = tt
+of_found d es number (Some s) at ours =
     let id : s.id ≡ message_id = each-at IsOurs es number s ours at in
-    of_pending s.id (pending s) (omega (arith, id))
+    of_pending s.id (pending d s) (omega (arith, id))
 
-turn_spelled : (es : List (ℕ × SearchState)) (number : ℕ) → AreOurs es → IsSpelledTurn (turn_at es number)
-turn_spelled es number ours = of_found es number (search_at es number) refl ours
+turn_spelled : (d : DirectoryState) (es : List (ℕ × SearchState)) (number : ℕ) → AreOurs es → IsSpelledTurn (turn_at d es number)
+turn_spelled d es number ours = of_found d es number (search_at es number) refl ours
 
 spelled_as : (turn : HandOut) (found : Handed) → IsSpelledTurn turn → IfSome (turn_of found) (λ there. there ≡ turn) → IsSpelled found
 spelled_as turn (handed.Message message) has is = subst IsSpelledTurn (sym is) has
@@ -196,15 +177,16 @@ spelled_as turn handed.NoSuchSearch has is = tt
 spelled_as turn handed.NoMemory has is = tt
 
 -- what is handed out of such a search has an encoding
-pub spelled : (es : List (ℕ × SearchState)) (number : ℕ) (found : Handed) → AreOurs es → IfSome (turn_of found) (λ turn. turn ≡ turn_at es number) → IsSpelled found
-spelled es number found ours is = spelled_as (turn_at es number) found (turn_spelled es number ours) is
+pub spelled : (d : DirectoryState) (es : List (ℕ × SearchState)) (number : ℕ) (found : Handed) → AreOurs es → IfSome (turn_of found) (λ turn. turn ≡ turn_at d es number) → IsSpelled found
+spelled d es number found ours is = spelled_as (turn_at d es number) found (turn_spelled d es number ours) is
 
-at_place_spelled : (es : List (ℕ × SearchState)) (number place : ℕ) (found : Option SearchState) → search_at es number ≡ found → AreOurs es → IsSpelledTurn (turn_of_place place found)
-at_place_spelled es number place None at ours = tt
-at_place_spelled es number place (Some s) at ours =
+at_place_spelled : (d : DirectoryState) (es : List (ℕ × SearchState)) (number place : ℕ) (found : Option SearchState) → search_at es number ≡ found → AreOurs es → IsSpelledTurn (turn_of_place d place found)
+at_place_spelled d es number place None at ours = tt
+at_place_spelled d es number place (Some s) at ours =
     let id : s.id ≡ message_id = each-at IsOurs es number s ours at in
-    of_pending s.id (drop place (pending s)) (omega (arith, id))
+    of_pending s.id (drop place (pending d s)) (omega (arith, id))
 
 -- the same of a message with others before it
-pub place_spelled : (es : List (ℕ × SearchState)) (number place : ℕ) (found : Handed) → AreOurs es → IfSome (turn_of found) (λ turn. turn ≡ turn_at_place es number place) → IsSpelled found
-place_spelled es number place found ours is = spelled_as (turn_at_place es number place) found (at_place_spelled es number place (search_at es number) refl ours) is
+pub place_spelled : (d : DirectoryState) (es : List (ℕ × SearchState)) (number place : ℕ) (found : Handed) → AreOurs es → IfSome (turn_of found) (λ turn. turn ≡ turn_at_place d es number place) → IsSpelled found
+place_spelled d es number place found ours is =
+    spelled_as (turn_at_place d es number place) found (at_place_spelled d es number place (search_at es number) refl ours) is

@@ -1,22 +1,18 @@
 -- The commits of an event: all of them or none, where nothing but a limit rejects one of them.
-use Rattle.std.proofs.Common.{◌≡◌, ℕ, Bool, true, false, cond, Option, Some, None, List, [], ◌∷◌, ◌++◌, length, take, refl, ap, sym, subst, ◌∙◌}
+use Rattle.std.proofs.Common.{◌≡◌, ℕ, Option, Some, None, List, [], ◌∷◌, ◌++◌, length, take, refl, ap, sym, subst, ◌∙◌}
 use Rattle.std.specs.Option.{option_or}
-use Rattle.std.specs.Prelude.{⊤, ◌+◌, nat_le, nat_lt, is_none, Ok, Err, fold, map, option_map}
+use Rattle.std.specs.Prelude.{◌+◌, Ok, Err, fold, map, option_map}
 use Rattle.std.proofs.Math.Seq.{take-append_seam}
-use Rattle.csn_cookie.specs.CsnMaker.{greatest_count}
 use Rattle.directory_writes.specs.Commits as directory
-use Rattle.directory_writes.specs.Directory.{DirectoryState, entries_of, csn_of_next_write, most_writes, most_writes_weight, with_judged}
-use Rattle.directory_writes.specs.Weights.{op_weight, kept_weight}
+use Rattle.directory_writes.specs.Directory.{DirectoryState, entries_of, with_judged}
 use Rattle.directory_writes.specs.declared.commit.DirectoryCommitFault.{DirectoryCommitFault}
 use Rattle.directory_writes.specs.declared.commit.DirectoryCommitFault.TheVariants as cause
-use Rattle.directory_writes.proofs.Commits.{commit_open, open_held}
+use Rattle.directory_writes.proofs.Commits.{OnlyLimits, commit_open, only_limits}
 use Rattle.directory_writes.proofs.Judged.{judged_is}
 use Rattle.directory_writes.proofs.Writes.{entries_after-push}
 use Rattle.entry_tree.specs.Effects.{committed, effect}
-use Rattle.entry_tree.specs.Fitting.{is_directory_content}
 use Rattle.entry_tree.specs.History.{identity}
 use Rattle.entry_tree.specs.Selection.{Search}
-use Rattle.entry_tree.specs.declared.entry.Entry.{Entry}
 use Rattle.entry_tree.specs.declared.op.Op.TheVariants.{Commit}
 use Rattle.sync_provider.specs.Committing.{RejectsCommit, fault_of}
 use Rattle.sync_provider.specs.Committing as committing
@@ -27,7 +23,6 @@ use Rattle.sync_provider.specs.declared.provider.Kind.TheVariants.{Replica}
 use Rattle.sync_provider.specs.declared.writing.CommitFault.{CommitFault}
 use Rattle.sync_provider.specs.declared.writing.CommitFault.TheVariants as fault
 use Rattle.cascade_script.specs.declared.fault.Cause.{Cause}
-use Rattle.cascade_script.specs.declared.fault.Cause.TheVariants.{LimitReached, NoMemory}
 use Rattle.cascade_nodes.specs.declared.node.ProviderNode.{ProviderNode}
 use Rattle.cascade_report.specs.Origins.{CommitOrigin}
 use Rattle.cascade_report.specs.ReportLines.{StoredStage}
@@ -39,25 +34,6 @@ pub noted : {A : Type 0} (xs ys : List A) → take (length xs) (xs ++ ys) ≡ xs
 noted xs ys = take-append_seam xs ys
 
 -- ---- one write
-
--- nothing rejects it, or a limit
-abbrev OnlyLimits : Option DirectoryCommitFault → Type 0
-OnlyLimits None = ⊤
-OnlyLimits (Some (cause.LimitReached limit)) = ⊤
-OnlyLimits (Some (cause.DuplicateName one other)) = ⊥
-OnlyLimits (Some cause.NoMemory) = ⊥
-
-only_limits : (d : DirectoryState) (puts : List Entry) (drops : List ℕ) (now : ℕ) → is_directory_content (committed (entries_of d) puts drops) ≡ true → OnlyLimits (directory.commit_refusal d puts drops now)
-only_limits d puts drops now held =
-    subst (λ against. OnlyLimits (option_or (directory.log_refusal d (op_weight (Commit puts drops)) now) against)) (sym (open_held (committed (entries_of d) puts drops) held))
-    (by (nat_le most_writes (length d.writes)) (nat_lt most_writes_weight (kept_weight d.writes + op_weight (Commit puts drops))) (is_none (csn_of_next_write d now)))
-  where
-    by : (full heavy none : Bool)
-        → OnlyLimits (option_or (cond full (Some (cause.LimitReached most_writes)) (cond heavy (Some (cause.LimitReached most_writes_weight)) (cond none (Some (cause.LimitReached greatest_count)) None))) None)
-    by true heavy none = tt
-    by false true none = tt
-    by false false true = tt
-    by false false false = tt
 
 -- where nothing rejects it, it leaves the entries with the stage in effect
 entries_with : (now : ℕ) (p : ProviderState) (stage : StoredStage) → directory.commit_refusal p.directory stage.puts stage.drops now ≡ None

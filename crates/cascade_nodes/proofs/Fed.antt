@@ -7,15 +7,17 @@ use Rattle.sync_model.specs.Stream.{among}
 use Rattle.sync_model.proofs.NextMessages.{HasNext}
 use Rattle.sync_model.proofs.Pigeons.{pigeons}
 use Rattle.sync_wire.specs.Sending as wire
+use Rattle.directory_writes.specs.Directory.{DirectoryState}
 use Rattle.directory_writes.proofs.Distinct.{AreDistinct, closed-same, distinct-closed, distinct-put_on}
 use Rattle.directory_writes.proofs.Keyed.{put_on, put_on-same}
 use Rattle.sync_provider.specs.Accepting.{is_free, numbers_from, free_number}
-use Rattle.sync_provider.specs.HandingOut.{search_at, HandOut, turn_of_message, turn_of_pending, turn_of_found, turn_at, without_first, handed_on, after_turn}
+use Rattle.sync_provider.specs.HandingOut.{search_at, HandOut, turn_of_message, turn_of_pending, turn_of_found, turn_at, handed_on, after_turn}
 use Rattle.sync_provider.specs.HandingOut as handing
 use Rattle.sync_provider.specs.HandingOut.HandOut.{Hands}
 use Rattle.sync_provider.specs.Machine.{ProviderState}
-use Rattle.sync_provider.specs.Search.{SearchState, pending}
+use Rattle.sync_provider.specs.Search.{SearchState, pending, advanced}
 use Rattle.sync_provider.proofs.Advanced.{Searches, IsAdvanced, advanced_is}
+use Rattle.sync_provider.proofs.Decided.{IsDecided, advanced_decided}
 use Rattle.sync_provider.proofs.Kept.{turn_other}
 use Rattle.cascade_nodes.specs.Opening.{message_id}
 use Rattle.cascade_nodes.specs.declared.node.ConsumerNode.{ConsumerNode}
@@ -29,22 +31,23 @@ pub cut_waits : (persists : Bool) → waits persists true ≡ false
 cut_waits true = refl
 cut_waits false = refl
 
--- the search of this number, with this specification and in this mode, has these messages pending, of which there are
--- some unless it waits for later writes
-pub record IsPending (searches : List (ℕ × SearchState)) (selection : Search) (mode cut : Bool) (at : ℕ) (messages : List SyncMessage) : Type 0 where
+-- the search of this number, with this specification and in this mode, has these messages pending on this directory, of
+-- which there are some unless it waits for later writes; and its refresh was decided at its acceptance
+pub record IsPending (d : DirectoryState) (searches : List (ℕ × SearchState)) (selection : Search) (mode cut : Bool) (at : ℕ) (messages : List SyncMessage) : Type 0 where
   pub search : SearchState
   pub found : search_at searches at ≡ Some search
   pub id : search.id ≡ message_id
   pub spec : search.spec ≡ selection
   pub persists : search.persists ≡ mode
   pub over : search.over ≡ cut
-  pub same : pending search ≡ messages
+  pub same : pending d search ≡ messages
+  pub decided : IsDecided search.accepted search.progress
   pub some : waits mode cut ≡ false → HasNext messages
 
 -- what the search that a consumer is fed by has pending, which is nothing after its end
-abbrev pub HasPending : List (ℕ × SearchState) → Search → (mode cut : Bool) → Option ℕ → List SyncMessage → Type 0
-HasPending searches selection mode cut None messages = (messages ≡ []) × (waits mode cut ≡ false)
-HasPending searches selection mode cut (Some at) messages = IsPending searches selection mode cut at messages
+abbrev pub HasPending : DirectoryState → List (ℕ × SearchState) → Search → (mode cut : Bool) → Option ℕ → List SyncMessage → Type 0
+HasPending d searches selection mode cut None messages = (messages ≡ []) × (waits mode cut ≡ false)
+HasPending d searches selection mode cut (Some at) messages = IsPending d searches selection mode cut at messages
 
 -- no search of the consumer is open or runs, and nothing is in its link
 pub record IsAtRest (f : ConsumerNode) : Type 0 where
@@ -65,63 +68,64 @@ pub record HasRoom (p : ProviderState) (f : ConsumerNode) : Type 0 where
 -- ---- the searches after the turn
 
 -- the own one has the rest pending or is over, the others are as before
-pub record IsAfter (searches later : Searches) (spec : Search) (mode cut : Bool) (at : ℕ) (own : Option ℕ) (rest : List SyncMessage) : Type 0 where
-  pub has : HasPending later spec mode cut own rest
+pub record IsAfter (d : DirectoryState) (searches later : Searches) (spec : Search) (mode cut : Bool) (at : ℕ) (own : Option ℕ) (rest : List SyncMessage) : Type 0 where
+  pub has : HasPending d later spec mode cut own rest
   pub only : (k : ℕ) → own ≡ Some k → k ≡ at
   pub elsewhere : (k : ℕ) → k ≢ at → search_at later k ≡ search_at searches k
   pub here : (s : SearchState) → search_at later at ≡ Some s → own ≡ Some at
   pub apart : AreDistinct later
 
 -- the turn of an open search is that of its first message
-pub turn_is : (searches : Searches) (at : ℕ) (s : SearchState) (first : SyncMessage) (rest : List SyncMessage) → search_at searches at ≡ Some s → pending s ≡ first ∷ rest → s.id ≡ message_id
-    → turn_at searches at ≡ turn_of_message message_id first
-turn_is searches at s first rest found some id =
-    ap turn_of_found found ∙ ap (turn_of_pending s.id) some ∙ ap (λ n. turn_of_message n first) id
+pub turn_is : (d : DirectoryState) (searches : Searches) (at : ℕ) (s : SearchState) (first : SyncMessage) (rest : List SyncMessage) → search_at searches at ≡ Some s → pending d s ≡ first ∷ rest → s.id ≡ message_id
+    → turn_at d searches at ≡ turn_of_message message_id first
+turn_is d searches at s first rest found some id =
+    ap (turn_of_found d) found ∙ ap (turn_of_pending s.id) some ∙ ap (λ n. turn_of_message n first) id
 
 -- after a message was handed out the rest is pending, and the other searches are as before
-pub handed_out : (searches : Searches) (spec : Search) (mode : Bool) (at : ℕ) (messages rest : List SyncMessage) (first : SyncMessage) (has : IsPending searches spec mode false at messages) → messages ≡ first ∷ rest
-    → turn_at searches at ≡ Hands (wire.sent message_id first) → (waits mode false ≡ false → HasNext rest) → AreDistinct searches
-    → IsAfter searches (after_turn searches at (turn_at searches at)) spec mode false at (Some at) rest
-handed_out searches spec mode at messages rest first has some is more apart = record {
+pub handed_out : (d : DirectoryState) (searches : Searches) (spec : Search) (mode : Bool) (at : ℕ) (messages rest : List SyncMessage) (first : SyncMessage) (has : IsPending d searches spec mode false at messages) → messages ≡ first ∷ rest
+    → turn_at d searches at ≡ Hands (wire.sent message_id first) → (waits mode false ≡ false → HasNext rest) → AreDistinct searches
+    → IsAfter d searches (after_turn d searches at (turn_at d searches at)) spec mode false at (Some at) rest
+handed_out d searches spec mode at messages rest first has some is more apart = record {
   has = record {
-    search = without_first has.search;
-    found = ap (λ es. search_at es at) later ∙ put_on-same searches at (without_first has.search) has.search has.found;
+    search = advanced d has.search;
+    found = ap (λ es. search_at es at) later ∙ put_on-same searches at (advanced d has.search) has.search has.found;
     id = now.id ∙ has.id;
     spec = now.spec ∙ has.spec;
     persists = now.persists ∙ has.persists;
     over = now.over ∙ has.over;
     same = now.same;
+    decided = advanced_decided d has.search has.search.accepted has.decided;
     some = more;
   };
   only = λ k mine. let same : k ≡ at = cc in same;
-  elsewhere = λ k far. turn_other searches at k (turn_at searches at) far;
+  elsewhere = λ k far. turn_other d searches at k (turn_at d searches at) far;
   here = λ s found. refl;
-  apart = subst AreDistinct (sym later) (distinct-put_on searches at (without_first has.search) apart);
+  apart = subst AreDistinct (sym later) (distinct-put_on searches at (advanced d has.search) apart);
 }
   where
-    later : after_turn searches at (turn_at searches at) ≡ put_on searches at (without_first has.search)
-    later = ap (after_turn searches at) is ∙ ap (handed_on searches at) has.found
+    later : after_turn d searches at (turn_at d searches at) ≡ put_on searches at (advanced d has.search)
+    later = ap (after_turn d searches at) is ∙ ap (handed_on d searches at) has.found
 
-    now : IsAdvanced has.search (without_first has.search) rest
-    now = advanced_is has.search rest first has.over (has.same ∙ some)
+    now : IsAdvanced d has.search (advanced d has.search) rest
+    now = advanced_is d has.search rest first has.over (has.same ∙ some)
 
 -- after the last message the search is closed, and the other searches are as before
-pub closed_then : (searches : Searches) (spec : Search) (mode cut : Bool) (at : ℕ) (turn : HandOut) (rest : List SyncMessage) → turn_at searches at ≡ turn → after_turn searches at turn ≡ handing.closed searches at → rest ≡ []
-    → waits mode cut ≡ false → AreDistinct searches → IsAfter searches (after_turn searches at (turn_at searches at)) spec mode cut at None rest
-closed_then searches spec mode cut at turn rest is goes none ends apart = record {
+pub closed_then : (d : DirectoryState) (searches : Searches) (spec : Search) (mode cut : Bool) (at : ℕ) (turn : HandOut) (rest : List SyncMessage) → turn_at d searches at ≡ turn → after_turn d searches at turn ≡ handing.closed searches at → rest ≡ []
+    → waits mode cut ≡ false → AreDistinct searches → IsAfter d searches (after_turn d searches at (turn_at d searches at)) spec mode cut at None rest
+closed_then d searches spec mode cut at turn rest is goes none ends apart = record {
   has = (none, ends);
   only = λ k mine. let never : ⊥ = cc in absurd never;
-  elsewhere = λ k far. turn_other searches at k (turn_at searches at) far;
+  elsewhere = λ k far. turn_other d searches at k (turn_at d searches at) far;
   here = λ s found. let bad : None ≡ Some s = sym (closed-same searches at apart) ∙ ap (λ es. search_at es at) (sym later) ∙ found in let never : ⊥ = cc in absurd never;
   apart = subst AreDistinct (sym later) (distinct-closed searches at apart);
 }
   where
-    later : after_turn searches at (turn_at searches at) ≡ handing.closed searches at
-    later = ap (after_turn searches at) is ∙ goes
+    later : after_turn d searches at (turn_at d searches at) ≡ handing.closed searches at
+    later = ap (after_turn d searches at) is ∙ goes
 
 -- a search that has nothing pending, and waits for nothing, is over
 pub own_over : (searches : Searches) (own : Option ℕ) (p : ProviderState) (f : ConsumerNode) (mode cut : Bool) (messages : List SyncMessage) → messages ≡ [] → waits mode cut ≡ false
-    → HasPending p.searches f.consumer.spec mode cut own messages → own ≡ None
+    → HasPending p.directory p.searches f.consumer.spec mode cut own messages → own ≡ None
 own_over searches None p f mode cut messages none ends has = refl
 own_over searches (Some at) p f mode cut messages none ends has = let some = (has.some ends).same in let bad : [] ≡ (has.some ends).next ∷ (has.some ends).later = sym none ∙ some in let never : ⊥ = cc in absurd never
 
@@ -134,10 +138,10 @@ abbrev pub OwnStays : Searches → Searches → Option ℕ → Type 0
 OwnStays searches later own = (at : ℕ) → own ≡ Some at → Stays searches later at
 
 -- what is pending of a search that is there still is pending still
-pub pending-other : (searches later : Searches) (spec : Search) (mode cut : Bool) (own : Option ℕ) (messages : List SyncMessage) → OwnStays searches later own
-    → HasPending searches spec mode cut own messages → HasPending later spec mode cut own messages
-pending-other searches later spec mode cut None messages stays has = has
-pending-other searches later spec mode cut (Some at) messages stays has = record {
+pub pending-other : (d : DirectoryState) (searches later : Searches) (spec : Search) (mode cut : Bool) (own : Option ℕ) (messages : List SyncMessage) → OwnStays searches later own
+    → HasPending d searches spec mode cut own messages → HasPending d later spec mode cut own messages
+pending-other d searches later spec mode cut None messages stays has = has
+pending-other d searches later spec mode cut (Some at) messages stays has = record {
   search = has.search;
   found = stays at refl has.search has.found;
   id = has.id;
@@ -145,14 +149,31 @@ pending-other searches later spec mode cut (Some at) messages stays has = record
   persists = has.persists;
   over = has.over;
   same = has.same;
+  decided = has.decided;
+  some = has.some;
+}
+
+-- with another log of the directory the same is pending
+pub pending-logged : (d e : DirectoryState) (searches : Searches) (spec : Search) (mode cut : Bool) (own : Option ℕ) (messages : List SyncMessage) → e.sid ≡ d.sid → e.history ≡ d.history → e.writes ≡ d.writes
+    → HasPending d searches spec mode cut own messages → HasPending e searches spec mode cut own messages
+pending-logged d e searches spec mode cut None messages sids histories writes has = has
+pending-logged d e searches spec mode cut (Some at) messages sids histories writes has = record {
+  search = has.search;
+  found = has.found;
+  id = has.id;
+  spec = has.spec;
+  persists = has.persists;
+  over = has.over;
+  same = (λ i. pending (record d { sid = sids i; history = histories i; writes = writes i }) has.search) ∙ has.same;
+  decided = has.decided;
   some = has.some;
 }
 
 -- the search of a consumer that is fed is open
-pub own_search : (searches : Searches) (spec : Search) (mode cut : Bool) (own : Option ℕ) (at : ℕ) (messages : List SyncMessage) → own ≡ Some at → HasPending searches spec mode cut own messages
+pub own_search : (d : DirectoryState) (searches : Searches) (spec : Search) (mode cut : Bool) (own : Option ℕ) (at : ℕ) (messages : List SyncMessage) → own ≡ Some at → HasPending d searches spec mode cut own messages
     → (s : SearchState) × (search_at searches at ≡ Some s)
-own_search searches spec mode cut None at messages is has = let never : ⊥ = cc in absurd never
-own_search searches spec mode cut (Some k) at messages is has = let same : k ≡ at = cc in (has.search, ap (search_at searches) (sym same) ∙ has.found)
+own_search d searches spec mode cut None at messages is has = let never : ⊥ = cc in absurd never
+own_search d searches spec mode cut (Some k) at messages is has = let same : k ≡ at = cc in (has.search, ap (search_at searches) (sym same) ∙ has.found)
 
 -- ---- no number is free
 

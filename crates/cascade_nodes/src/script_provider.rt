@@ -183,9 +183,10 @@ impl ScriptProvider {
     /// has a spelling. None is handed out.
     pub fn pending_at(&self, number: u64, place: usize) -> Handed
         ensures turn { IfSome (turn_of result)
-            (λ turn. turn ≡ turn_at_place self.now.searches number place) }
+            (λ turn. turn ≡ turn_at_place self.now.directory self.now.searches number place) }
         ensures memory { result ≡ Handed.NoMemory
-            → has_message (turn_at_place self.now.searches number place) ≡ true }
+            → has_message (turn_at_place self.now.directory self.now.searches number place)
+            ≡ true }
         ensures spelled { IsSpelled result }
     {
         self.provider.pending_at(number, place)

@@ -39,7 +39,7 @@ pub(crate) fn name_of(alloc: Global, unit: &str) -> Option<String> {
     if unit.is_empty() {
         return "dc=x".to_string(alloc).ok();
     }
-    format!(in alloc; "ou={unit},dc=x").ok()
+    joined(alloc, "ou=", unit, ",dc=x")
 }
 
 /// Its attributes.
@@ -49,29 +49,46 @@ pub(crate) fn attributes_of(alloc: Global, unit: &str) -> Option<String> {
             .to_string(alloc)
             .ok();
     }
-    format!(in alloc; "objectClass=organizationalUnit ou={unit}").ok()
+    joined(alloc, "objectClass=organizationalUnit ou=", unit, "")
+}
+
+/// These texts, one after another.
+pub(crate) fn joined(alloc: Global, first: &str, second: &str, third: &str) -> Option<String> {
+    let mut text = first.to_string(alloc).ok()?;
+    text.push_str(second).ok()?;
+    text.push_str(third).ok()?;
+    Some(text)
 }
 
 fn added(alloc: Global, name: &str, attributes: &str) -> Option<Change> {
-    let name = octets(alloc, name)?;
+    let list = attribute_list(alloc, attributes)?;
+    Some(Change::Add(octets(alloc, name)?, list))
+}
+
+fn attribute_list(alloc: Global, attributes: &str) -> Option<RawList> {
     let mut list = RawList::new(alloc);
     for word in attributes.split(' ') {
         list.push(attribute(alloc, word)?).ok()?;
     }
-    Some(Change::Add(name, list))
+    Some(list)
 }
 
 /// `type=value,value`.
 fn attribute(alloc: Global, text: &str) -> Option<RawAttribute> {
     let (name, values) = text.split_once('=').unwrap_or((text, ""));
+    let values = value_list(alloc, values)?;
+    Some(RawAttribute {
+        name: octets(alloc, name)?,
+        values,
+    })
+}
+
+fn value_list(alloc: Global, values: &str) -> Option<OctetsList> {
     let mut list = OctetsList::new(alloc);
     for value in values.split(',') {
         list.push(octets(alloc, value)?).ok()?;
     }
-    Some(RawAttribute {
-        name: octets(alloc, name)?,
-        values: list,
-    })
+    Some(list)
 }
 
 fn octets(alloc: Global, text: &str) -> Option<Octets> {
@@ -127,7 +144,10 @@ pub(crate) fn asked(alloc: Global) -> Option<Consumer> {
             discard(request);
             Some(consumer)
         }
-        Err(_) => None,
+        Err(_) => {
+            discard(consumer);
+            None
+        }
     }
 }
 

@@ -1,5 +1,5 @@
 //! What threads hand in once they are done.
-ghost use Rattle.std.specs.Prelude.{◌≡◌, OnSome};
+ghost use Rattle.std.specs.Prelude.{◌≡◌};
 ghost use Rattle.turn_cell.specs.Journals.{Every};
 ghost use Rattle.turn_cell.specs.Passes.{cell_id};
 ghost use Rattle.shared_directory.specs.Passes.{IsPassOf};
@@ -9,8 +9,10 @@ use crate::asking::take_next;
 use crate::passing::put_back;
 use crate::tasks::{FollowedSearch, Noted, Tried};
 use crate::working::{Four, Worked};
+use ldap_ber::discard;
 use shared_directory::{DirectoryPass, SharedDirectory};
 use std::alloc::Global;
+use std::process::Abort;
 use std::sync::Wait;
 use sync_consumer::Consumer;
 use sync_provider::Port;
@@ -31,66 +33,66 @@ impl Gathered {
         }
     }
 
-    fn add(&mut self, noted: Option<Noted>) -> Option<()> {
-        let Noted { tried, search } = noted?;
-        let kept = self.keep(search);
-        self.tried.extend_from_slice(tried.as_slice()).ok()?;
-        kept
+    fn add(&mut self, rt: &impl Abort, noted: Option<Noted>) {
+        let Some(noted) = noted else {
+            panic!(rt; "a thread gave up")
+        };
+        let (tried, search) = noted.into_parts();
+        self.tried
+            .extend_from_slice(tried.as_slice())
+            .expect(rt, "memory");
+        if let Some(search) = search {
+            self.keep(rt, search);
+        }
     }
 
-    fn keep(&mut self, search: Option<FollowedSearch>) -> Option<()> {
-        match search {
-            Some(search) => {
-                let FollowedSearch {
-                    number: _,
-                    consumer,
-                } = search;
-                self.consumers.push(consumer).ok()
-            }
-            None => Some(()),
-        }
+    fn keep(&mut self, rt: &impl Abort, search: FollowedSearch) {
+        let consumer = search.into_consumer();
+        self.consumers.push(consumer).expect(rt, "memory");
     }
 }
 
+// Nothing is left early while what a thread hands in stands, whose drop would be written out there:
+// what is missing ends the test.
+
 /// Puts the pass of a thread back, and gathers what it noted. Its consumer takes what is pending
 /// first. No other thread writes any more.
-pub(crate) fn hand_in<R: Wait>(
+pub(crate) fn hand_in<R: Wait + Abort>(
     rt: &R,
     directory: &SharedDirectory,
     passes: &mut Vec<DirectoryPass>,
     worked: Worked,
     gathered: &mut Gathered,
-) -> Option<()>
+)
     requires passes { Every (λ pass. IsPassOf (cell_id directory.now.cell) pass) passes.old.items }
     requires worked { IsPassOf (cell_id directory.now.cell) worked.0 }
-    ensures { OnSome result
-        (Every (λ pass. IsPassOf (cell_id directory.now.cell) pass) passes.new.items) }
+    ensures { Every (λ pass. IsPassOf (cell_id directory.now.cell) pass) passes.new.items }
 {
     let (pass, noted) = worked;
     let (pass, noted) = caught_up(rt, directory, pass, noted);
-    let added = gathered.add(noted);
-    put_back(directory, passes, pass)?;
-    added
+    gathered.add(rt, noted);
+    let Some(()) = put_back(directory, passes, pass) else {
+        panic!(rt; "out of memory")
+    };
 }
 
 /// The same of four threads.
-pub(crate) fn hand_in_four<R: Wait>(
+pub(crate) fn hand_in_four<R: Wait + Abort>(
     rt: &R,
     directory: &SharedDirectory,
     passes: &mut Vec<DirectoryPass>,
     four: Four,
     gathered: &mut Gathered,
-) -> Option<()>
+)
     requires passes { Every (λ pass. IsPassOf (cell_id directory.now.cell) pass) passes.old.items }
     requires four { AreGivenBack (cell_id directory.now.cell) four }
-    ensures { OnSome result
-        (Every (λ pass. IsPassOf (cell_id directory.now.cell) pass) passes.new.items) }
+    ensures { Every (λ pass. IsPassOf (cell_id directory.now.cell) pass) passes.new.items }
 {
     let ((first, second), (third, fourth)) = four;
-    hand_in(rt, directory, passes, first, gathered)?;
-    hand_in(rt, directory, passes, second, gathered)?;
-    hand_in(rt, directory, passes, third, gathered)?;
-    hand_in(rt, directory, passes, fourth, gathered)
+    hand_in(rt, directory, passes, first, gathered);
+    hand_in(rt, directory, passes, second, gathered);
+    hand_in(rt, directory, passes, third, gathered);
+    hand_in(rt, directory, passes, fourth, gathered);
 }
 
 /// The pass, with what was noted once all that is pending is taken.
@@ -114,7 +116,10 @@ fn with_pending<P: Port>(port: &mut P, noted: Option<Noted>) -> Option<Noted>
     let mut noted = noted?;
     match take_pending(port, &mut noted.search) {
         Some('-') => Some(noted),
-        _ => None,
+        _ => {
+            discard(noted);
+            None
+        }
     }
 }
 

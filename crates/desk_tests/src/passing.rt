@@ -1,29 +1,44 @@
 //! Passes of a directory: dealt, and put together again.
-ghost use Rattle.std.specs.Prelude.{◌≡◌, ◌+◌, ◌≤◌, length, IfSome, OnSome};
+ghost use Rattle.std.specs.Prelude.{◌≡◌, ◌+◌, ◌≤◌, length, OnSome};
 ghost use Rattle.turn_cell.specs.Journals.{Every};
 ghost use Rattle.turn_cell.specs.Passes.{cell_id};
 ghost use Rattle.shared_directory.specs.Passes.{IsPassOf};
 
 use shared_directory::{DirectoryPass, SharedDirectory};
 use std::alloc::Global;
+use std::process::Abort;
 use sync_provider::Provider;
 
 pub(crate) type Pair = (DirectoryPass, DirectoryPass);
 
 /// A directory that is shared, with as many passes.
 pub(crate) fn share(
+    rt: &impl Abort,
     alloc: Global,
     provider: Provider,
     seats: u32,
-) -> Option<(SharedDirectory, Vec<DirectoryPass>)>
+) -> (SharedDirectory, Vec<DirectoryPass>)
     requires { (1 ≤ seats) × (seats ≤ 1024) }
-    ensures count { IfSome result (λ made. length made.1.items ≡ seats) }
-    ensures passes { IfSome result (λ made.
-        Every (λ pass. IsPassOf (cell_id made.0.cell) pass) made.1.items) }
+    ensures count { length result.1.items ≡ seats }
+    ensures passes { Every (λ pass. IsPassOf (cell_id result.0.cell) pass) result.1.items }
 {
     match SharedDirectory::new(alloc, provider, seats) {
-        Ok(made) => Some(made),
-        Err(_) => None,
+        Ok(made) => made,
+        Err(_) => panic!(rt; "no directory"),
+    }
+}
+
+/// The provider of a directory all of whose passes are given.
+pub(crate) fn closed(
+    rt: &impl Abort,
+    directory: SharedDirectory,
+    passes: Vec<DirectoryPass>,
+) -> Provider
+    requires { Every (λ pass. IsPassOf (cell_id directory.cell) pass) passes.items }
+{
+    match directory.close(passes) {
+        Ok(provider) => provider,
+        Err(_) => panic!(rt; "a pass was out"),
     }
 }
 

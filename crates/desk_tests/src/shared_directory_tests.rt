@@ -1,9 +1,12 @@
 //! Desks of a shared directory: what they reply, what they have seen, and what stays.
+ghost use Rattle.turn_cell.specs.Journals.{Every};
+ghost use Rattle.turn_cell.specs.Passes.{cell_id};
+ghost use Rattle.shared_directory.specs.Passes.{IsPassOf};
 
 use crate::asking::{add, count, follow, next, several};
 use crate::copies::are_copies;
 use crate::gathering::{Gathered, hand_in, hand_in_four};
-use crate::passing::{last_two, put_back, share};
+use crate::passing::{closed, last_two, put_back, share};
 use crate::replaying::replays;
 use crate::tasks::{Task, Tried, Work};
 use crate::working::{accepted, rises, work_in_eight, work_in_two};
@@ -11,23 +14,47 @@ use dn_names::Dn;
 use entry_tree::{EntryList, Scope};
 use ldap_ber::discard;
 use ldap_constants::{COMPARE_FALSE, COMPARE_TRUE};
-use shared_directory::{CloseFault, journal_seen};
+use shared_directory::{CloseFault, DirectoryPass, SharedDirectory, journal_seen};
 use std::alloc::Global;
-use std::test::Fail;
+use std::process::Abort;
+use std::sync::Wait;
 use sync_messages::IdList;
 use sync_provider::{Accepted, CommitFault, Kind, Port, Provider, Reply};
 
-fn provider(alloc: Global) -> Option<Provider> {
-    let suffix = Dn::parse(alloc, b"dc=x").ok()?;
-    Provider::new(alloc, suffix, 1, 1, Kind::Root).ok()
+fn provider(rt: &impl Abort, alloc: Global) -> Provider {
+    let suffix = Dn::parse(alloc, b"dc=x").expect(rt, "a suffix");
+    Provider::new(alloc, suffix, 1, 1, Kind::Root).expect(rt, "a provider")
+}
+
+/// Closes a directory before its last pass is given, and again with it.
+fn close_twice(
+    rt: &impl Abort,
+    directory: SharedDirectory,
+    passes: Vec<DirectoryPass>,
+    last: DirectoryPass,
+) -> Provider
+    requires passes { Every (λ pass. IsPassOf (cell_id directory.cell) pass) passes.items }
+    requires last { IsPassOf (cell_id directory.cell) last }
+{
+    match directory.close(passes) {
+        Ok(_) => panic!(rt; "a pass was out"),
+        Err((fault, directory, passes)) => {
+            let mut passes = passes;
+            assert!(rt; fault == CloseFault::PassesOut(1) && passes.len() == 1);
+            let Some(()) = put_back(&directory, &mut passes, last) else {
+                panic!(rt; "out of memory")
+            };
+            closed(rt, directory, passes)
+        }
+    }
 }
 
 /// Two desks see one directory, which has the write of one of them.
 #[test]
-fn two_desks_see_one_directory(rt: HostRuntime) -> Result<(), Fail> {
+fn two_desks_see_one_directory(rt: HostRuntime) {
     let alloc = rt.alloc();
-    let provider = provider(alloc).ok_or("no provider")?;
-    let (directory, mut passes) = share(alloc, provider, 2).ok_or("no directory")?;
+    let provider = provider(&rt, alloc);
+    let (directory, mut passes) = share(&rt, alloc, provider, 2);
     let (first, second) = last_two(&directory, &mut passes);
     let mut one = directory.desk(&rt, first);
     let mut two = directory.desk(&rt, second);
@@ -43,139 +70,141 @@ fn two_desks_see_one_directory(rt: HostRuntime) -> Result<(), Fail> {
     let Some(()) = put_back(&directory, &mut passes, first) else {
         panic!(rt; "out of memory")
     };
-    let Err((fault, directory, mut passes)) = directory.close(passes) else {
-        panic!(rt; "a pass was out")
-    };
-    assert!(rt; fault == CloseFault::PassesOut(1) && passes.len() == 1);
-    let Some(()) = put_back(&directory, &mut passes, second) else {
-        panic!(rt; "out of memory")
-    };
-    let Ok(provider) = directory.close(passes) else {
-        panic!(rt; "no pass was out")
-    };
+    let provider = close_twice(&rt, directory, passes, second);
     let writes = provider.writes();
     discard(provider);
     assert!(rt; writes == 1);
-    Ok(())
+}
+
+/// What is done at two desks of one directory.
+#[derive(Clone, Copy)]
+enum DeskWork {
+    Follow,
+    TakeTogether,
+    Compare,
+    Commit,
+}
+
+fn perform<P: Port>(rt: &impl Abort, alloc: Global, work: DeskWork, one: &mut P, two: &mut P) {
+    match work {
+        DeskWork::Follow => assert_followed(rt, alloc, one, two),
+        DeskWork::TakeTogether => assert_together(rt, alloc, one),
+        DeskWork::Compare => assert_compared(rt, alloc, one),
+        DeskWork::Commit => assert_committed(rt, alloc, one, two),
+    }
+}
+
+/// Asserts that this is done at two desks, and how much the first of them has seen of the journal
+/// then.
+fn assert_at_desks<R: Wait + Abort>(
+    rt: &R,
+    alloc: Global,
+    provider: Provider,
+    work: DeskWork,
+    seen: u64,
+) {
+    let (directory, mut passes) = share(rt, alloc, provider, 2);
+    let (first, second) = last_two(&directory, &mut passes);
+    let mut one = directory.desk(rt, first);
+    let mut two = directory.desk(rt, second);
+    perform(rt, alloc, work, &mut one, &mut two);
+    assert!(rt; journal_seen(&one) == seen);
+    discard(one);
+    discard(two);
+    discard(passes);
+    discard(directory);
+}
+
+fn assert_added<P: Port>(rt: &impl Abort, alloc: Global, port: &mut P, unit: &str, number: u64) {
+    let reply = add(alloc, port, unit);
+    assert!(rt; reply == Some(Reply { code: 0, number }));
+}
+
+fn assert_followed<P: Port>(rt: &impl Abort, alloc: Global, one: &mut P, two: &mut P) {
+    assert_added(rt, alloc, one, "", 1);
+    assert!(rt; follow(alloc, one) == Some(Accepted::Opened(1, 1)));
+    assert!(rt; next(two, 1) == Some('?') && !two.drop_search(1));
+    assert!(rt; next(one, 1) == Some('m') && next(one, 1) == Some('m'));
+    assert!(rt; next(one, 1) == Some('-'));
+    assert_added(rt, alloc, two, "a", 2);
+    assert!(rt; next(one, 1) == Some('m') && next(one, 1) == Some('-'));
+    assert!(rt; one.drop_search(1) && next(one, 1) == Some('?'));
 }
 
 /// A desk follows the searches that it opened itself, and no other desk does.
 #[test]
-fn a_search_is_of_the_desk_that_opened_it(rt: HostRuntime) -> Result<(), Fail> {
-    let alloc = rt.alloc();
-    let provider = provider(alloc).ok_or("no provider")?;
-    let (directory, mut passes) = share(alloc, provider, 2).ok_or("no directory")?;
-    let (first, second) = last_two(&directory, &mut passes);
-    let mut one = directory.desk(&rt, first);
-    let mut two = directory.desk(&rt, second);
-    let reply = add(alloc, &mut one, "");
-    let opened = follow(alloc, &mut one);
-    assert!(rt; reply == Some(Reply { code: 0, number: 1 }));
-    assert!(rt; opened == Some(Accepted::Opened(1, 1)));
-    let other = (next(&mut two, 1), two.drop_search(1));
-    assert!(rt; other == (Some('?'), false));
-    let own = (next(&mut one, 1), next(&mut one, 1), next(&mut one, 1));
-    assert!(rt; own == (Some('m'), Some('m'), Some('-')));
-    let later = add(alloc, &mut two, "a");
-    assert!(rt; later == Some(Reply { code: 0, number: 2 }));
-    let own = (next(&mut one, 1), next(&mut one, 1), one.drop_search(1));
-    assert!(rt; own == (Some('m'), Some('-'), true));
-    assert!(rt; next(&mut one, 1) == Some('?') && journal_seen(&one) == 4);
-    discard(one);
-    discard(two);
-    Ok(())
+fn a_search_is_of_the_desk_that_opened_it(rt: HostRuntime) {
+    let root = provider(&rt, rt.alloc());
+    assert_at_desks(&rt, rt.alloc(), root, DeskWork::Follow, 4);
+}
+
+fn assert_together<P: Port>(rt: &impl Abort, alloc: Global, port: &mut P) {
+    assert_added(rt, alloc, port, "", 1);
+    assert!(rt; follow(alloc, port) == Some(Accepted::Opened(1, 1)));
+    assert!(rt; several(alloc, port, 1) == Some((2, '-')));
+    assert!(rt; several(alloc, port, 1) == Some((0, '-')));
+    assert!(rt; several(alloc, port, 2) == Some((0, '?')));
 }
 
 /// What is pending at a desk comes in one turn.
 #[test]
-fn messages_come_together_at_a_desk(rt: HostRuntime) -> Result<(), Fail> {
-    let alloc = rt.alloc();
-    let provider = provider(alloc).ok_or("no provider")?;
-    let (directory, mut passes) = share(alloc, provider, 2).ok_or("no directory")?;
-    let (first, second) = last_two(&directory, &mut passes);
-    discard(second);
-    let mut desk = directory.desk(&rt, first);
-    let reply = add(alloc, &mut desk, "");
-    let opened = follow(alloc, &mut desk);
-    assert!(rt; reply == Some(Reply { code: 0, number: 1 }));
-    assert!(rt; opened == Some(Accepted::Opened(1, 1)));
-    let own = (several(alloc, &mut desk, 1), several(alloc, &mut desk, 1));
-    assert!(rt; own == (Some((2, '-')), Some((0, '-'))));
-    assert!(rt; several(alloc, &mut desk, 2) == Some((0, '?')));
-    discard(desk);
-    Ok(())
+fn messages_come_together_at_a_desk(rt: HostRuntime) {
+    let root = provider(&rt, rt.alloc());
+    assert_at_desks(&rt, rt.alloc(), root, DeskWork::TakeTogether, 2);
+}
+
+fn assert_compared<P: Port>(rt: &impl Abort, alloc: Global, port: &mut P) {
+    assert_added(rt, alloc, port, "", 1);
+    let name = Dn::parse(alloc, b"dc=x").expect(rt, "a name");
+    assert!(rt; port.compare(&name, b"o", b"x") == COMPARE_TRUE);
+    assert!(rt; port.compare(&name, b"o", b"y") == COMPARE_FALSE);
+    let committed = port.commit(EntryList::new(alloc), IdList::new(alloc), 0);
+    assert!(rt; committed == Err(CommitFault::NotAReplica) && port.writes() == 1);
 }
 
 /// What changes nothing is answered at a desk, and a root takes no commit.
 #[test]
-fn a_desk_compares_and_counts(rt: HostRuntime) -> Result<(), Fail> {
-    let alloc = rt.alloc();
-    let root = provider(alloc).ok_or("no provider")?;
-    let (directory, mut passes) = share(alloc, root, 2).ok_or("no directory")?;
-    let (first, second) = last_two(&directory, &mut passes);
-    discard(second);
-    let mut desk = directory.desk(&rt, first);
-    let reply = add(alloc, &mut desk, "");
-    assert!(rt; reply == Some(Reply { code: 0, number: 1 }));
-    let name = Dn::parse(alloc, b"dc=x")?;
-    let codes = (
-        desk.compare(&name, b"o", b"x"),
-        desk.compare(&name, b"o", b"y"),
-    );
-    discard(name);
-    assert!(rt; codes == (COMPARE_TRUE, COMPARE_FALSE));
-    let committed = desk.commit(EntryList::new(alloc), IdList::new(alloc), 0);
-    assert!(rt; committed == Err(CommitFault::NotAReplica));
-    assert!(rt; desk.writes() == 1 && journal_seen(&desk) == 1);
-    discard(desk);
-    Ok(())
+fn a_desk_compares_and_counts(rt: HostRuntime) {
+    let root = provider(&rt, rt.alloc());
+    assert_at_desks(&rt, rt.alloc(), root, DeskWork::Compare, 1);
+}
+
+fn assert_committed<P: Port>(rt: &impl Abort, alloc: Global, one: &mut P, two: &mut P) {
+    let first = one.commit(EntryList::new(alloc), IdList::new(alloc), 0);
+    let second = two.commit(EntryList::new(alloc), IdList::new(alloc), 0);
+    assert!(rt; first == Ok(1) && second == Ok(2) && one.writes() == 2);
 }
 
 /// Desks of a replica count each other's commits.
 #[test]
-fn commits_of_two_desks_are_counted_together(rt: HostRuntime) -> Result<(), Fail> {
-    let alloc = rt.alloc();
-    let suffix = Dn::parse(alloc, b"")?;
-    let replica = Provider::new(alloc, suffix, 1, 1, Kind::Replica)?;
-    let (directory, mut passes) = share(alloc, replica, 2).ok_or("no directory")?;
-    let (first, second) = last_two(&directory, &mut passes);
-    let mut one = directory.desk(&rt, first);
-    let mut two = directory.desk(&rt, second);
-    let first = one.commit(EntryList::new(alloc), IdList::new(alloc), 0);
-    let second = two.commit(EntryList::new(alloc), IdList::new(alloc), 0);
-    assert!(rt; first == Ok(1) && second == Ok(2));
-    assert!(rt; one.writes() == 2 && journal_seen(&one) == 2);
-    discard(one);
-    discard(two);
-    Ok(())
+fn commits_of_two_desks_are_counted_together(rt: HostRuntime) {
+    let suffix = Dn::parse(rt.alloc(), b"").expect(&rt, "a suffix");
+    let replica = Provider::new(rt.alloc(), suffix, 1, 1, Kind::Replica);
+    let replica = replica.expect(&rt, "a replica");
+    assert_at_desks(&rt, rt.alloc(), replica, DeskWork::Commit, 2);
 }
 
 /// Two threads each add fifty units below `dc=x`. All are accepted, and each thread gets rising
 /// numbers.
 #[test]
-fn two_threads_add_fifty_units_each(rt: HostRuntime) -> Result<(), Fail> {
+fn two_threads_add_fifty_units_each(rt: HostRuntime) {
     let alloc = rt.alloc();
-    let provider = with_room(alloc).ok_or("no provider")?;
-    let (directory, mut passes) = share(alloc, provider, 2).ok_or("no directory")?;
+    let provider = with_room(&rt, alloc);
+    let (directory, mut passes) = share(&rt, alloc, provider, 2);
     let pair = last_two(&directory, &mut passes);
     let units = Task::new(Work::Units, 1);
     let (first, second) = work_in_two(&rt, alloc, &directory, pair, units);
     let (mut ones, mut twos) = (Gathered::new(alloc), Gathered::new(alloc));
-    let Some(()) = hand_in(&rt, &directory, &mut passes, first, &mut ones) else {
-        panic!(rt; "a thread gave up")
-    };
-    let Some(()) = hand_in(&rt, &directory, &mut passes, second, &mut twos) else {
-        panic!(rt; "a thread gave up")
-    };
-    let Ok(provider) = directory.close(passes) else {
-        panic!(rt; "no pass was out")
-    };
+    hand_in(&rt, &directory, &mut passes, first, &mut ones);
+    hand_in(&rt, &directory, &mut passes, second, &mut twos);
+    let provider = closed(&rt, directory, passes);
     let writes = provider.writes();
     discard(provider);
     assert!(rt; has_fifty_in_order(ones.tried.as_slice()));
     assert!(rt; has_fifty_in_order(twos.tried.as_slice()));
     assert!(rt; writes == 101);
-    Ok(())
+    discard(ones);
+    discard(twos);
 }
 
 fn has_fifty_in_order(tried: &[Tried]) -> bool {
@@ -186,53 +215,47 @@ fn has_fifty_in_order(tried: &[Tried]) -> bool {
 /// want too, search, count, and two of them follow. One thread that makes the writes of the journal
 /// again gets each reply at its place, and the consumers of those two hold what was written.
 #[test]
-fn one_thread_gets_the_replies_of_eight(rt: HostRuntime) -> Result<(), Fail> {
+fn one_thread_gets_the_replies_of_eight(rt: HostRuntime) {
     let alloc = rt.alloc();
-    let provider = with_room(alloc).ok_or("no provider")?;
-    let (directory, mut passes) = share(alloc, provider, 8).ok_or("no directory")?;
+    let provider = with_room(&rt, alloc);
+    let (directory, mut passes) = share(&rt, alloc, provider, 8);
     let fourth = last_two(&directory, &mut passes);
     let third = last_two(&directory, &mut passes);
     let second = last_two(&directory, &mut passes);
     let first = last_two(&directory, &mut passes);
     let (lower, upper) = work_in_eight(&rt, alloc, &directory, (first, second), (third, fourth));
     let mut gathered = Gathered::new(alloc);
-    let Some(()) = hand_in_four(&rt, &directory, &mut passes, lower, &mut gathered) else {
-        panic!(rt; "a thread gave up")
-    };
-    let Some(()) = hand_in_four(&rt, &directory, &mut passes, upper, &mut gathered) else {
-        panic!(rt; "a thread gave up")
-    };
-    let Ok(shared) = directory.close(passes) else {
-        panic!(rt; "no pass was out")
-    };
-    let Gathered {
-        mut tried,
-        consumers,
-    } = gathered;
-    let copied = are_copies(alloc, &shared, tried.as_slice(), consumers.as_slice());
-    let same = is_made_again(alloc, &shared, &mut tried);
-    let writes = shared.writes();
+    hand_in_four(&rt, &directory, &mut passes, lower, &mut gathered);
+    hand_in_four(&rt, &directory, &mut passes, upper, &mut gathered);
+    let shared = closed(&rt, directory, passes);
+    assert_gathered(&rt, alloc, &shared, &mut gathered);
     discard(shared);
-    assert!(rt; same == Some(true) && tried.len() == 8_000 && writes == 4_501);
-    assert!(rt; copied == Some(true) && consumers.len() == 2);
-    Ok(())
+    discard(gathered);
+}
+
+/// Asserts that what eight threads gathered is what one gets, and what was written.
+fn assert_gathered(rt: &impl Abort, alloc: Global, shared: &Provider, gathered: &mut Gathered) {
+    let (tried, consumers) = (gathered.tried.as_slice(), gathered.consumers.as_slice());
+    let copied = are_copies(rt, alloc, shared, tried, consumers);
+    assert!(rt; copied && consumers.len() == 2);
+    let same = is_made_again(rt, alloc, shared, &mut gathered.tried);
+    assert!(rt; same && gathered.tried.len() == 8_000 && shared.writes() == 4_501);
 }
 
 /// A provider of `dc=x`, of which searches may have many messages pending.
-fn with_room(alloc: Global) -> Option<Provider> {
-    let mut made = provider(alloc)?;
+fn with_room(rt: &impl Abort, alloc: Global) -> Provider {
+    let mut made = provider(rt, alloc);
     made.set_queue_limit(100_000);
-    if add(alloc, &mut made, "") == Some(Reply { code: 0, number: 1 }) {
-        return Some(made);
-    }
-    None
+    let reply = add(alloc, &mut made, "");
+    assert!(rt; reply == Some(Reply { code: 0, number: 1 }));
+    made
 }
 
 /// Whether one thread gets these replies, and has as many writes and entries then.
-fn is_made_again(alloc: Global, shared: &Provider, log: &mut Vec<Tried>) -> Option<bool> {
-    let mut again = with_room(alloc)?;
+fn is_made_again(rt: &impl Abort, alloc: Global, shared: &Provider, log: &mut Vec<Tried>) -> bool {
+    let mut again = with_room(rt, alloc);
     let same = replays(alloc, &mut again, log);
     let (writes, entries) = (again.writes(), again.tree().len());
     discard(again);
-    Some(same && writes == shared.writes() && entries == shared.tree().len())
+    same && writes == shared.writes() && entries == shared.tree().len()
 }

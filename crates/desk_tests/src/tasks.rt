@@ -40,15 +40,52 @@ pub struct Tried {
 
 /// A search that goes on after its refresh, by its number, and the consumer that takes its
 /// messages.
-#[derive(Drop)]
 pub struct FollowedSearch {
     pub number: u64,
     pub consumer: Consumer,
 }
 
+/// A call of its own, so that what drops a search is one step.
+impl Drop for FollowedSearch {
+    fn drop(self) {
+        let FollowedSearch {
+            number: _,
+            consumer: _consumer,
+        } = self;
+    }
+}
+
+impl FollowedSearch {
+    /// The consumer alone.
+    pub fn into_consumer(self) -> Consumer {
+        let FollowedSearch {
+            number: _,
+            consumer,
+        } = self;
+        consumer
+    }
+}
+
 /// What a thread hands in: the writes that it tried, and the search that it follows, if any.
-#[derive(Drop)]
 pub struct Noted {
     pub tried: Vec<Tried>,
     pub search: Option<FollowedSearch>,
+}
+
+/// A call of its own, as for [`FollowedSearch`].
+impl Drop for Noted {
+    fn drop(self) {
+        let Noted {
+            tried: _tried,
+            search: _search,
+        } = self;
+    }
+}
+
+impl Noted {
+    /// The writes, and the search.
+    pub fn into_parts(self) -> (Vec<Tried>, Option<FollowedSearch>) {
+        let Noted { tried, search } = self;
+        (tried, search)
+    }
 }

@@ -1,8 +1,7 @@
 -- Directories that the same adds filled: what one judges of an add, the other does too.
-use Rattle.std.proofs.Common.{◌≡◌, ◌≢◌, ℕ, ◌+◌, ◌*◌, ◌%◌, ◌^◌, ◌<◌, ◌≤◌, Bool, true, false, not, ◌&&◌, ◌||◌, nat_lt, nat_le, min, cond, if◌then◌else◌, List, [], ◌∷◌, ◌++◌, map, length, Option, Some, None, Result, Err, refl, sym, ap, subst, ◌∙◌, arith}
+use Rattle.std.proofs.Common.{◌≡◌, ◌≢◌, ℕ, ◌+◌, ◌<◌, ◌≤◌, Bool, true, false, not, ◌&&◌, ◌||◌, nat_lt, nat_le, min, cond, if◌then◌else◌, List, [], ◌∷◌, ◌++◌, map, length, Option, Some, None, Result, Err, refl, sym, ap, subst, ◌∙◌, arith}
 use Rattle.std.specs.List.{list_all, list_any}
 use Rattle.std.specs.Option.{option_or}
-use Rattle.std.proofs.Math.Nat.{mod-eq_of_lt}
 use Rattle.std.proofs.lemmas.Bool.{and_parts, and_from, false≢true, ltb-true, lt-ltb}
 use Rattle.std.proofs.lemmas.List.{length-map, length_push, map-append}
 use Rattle.std.proofs.lemmas.List.Folds.{fold-map, list_all-append}
@@ -13,7 +12,8 @@ use Rattle.ldap_constants.specs.declared.result_codes.TheConstants.{ADMIN_LIMIT_
 use Rattle.schema_rules.specs.Attributes.{entry_code, weight_of}
 use Rattle.schema_rules.specs.declared.attributes.Attribute.{Attribute}
 use Rattle.entry_tree.specs.Codes.{add_code, code_of, naming_code, weight_code}
-use Rattle.entry_tree.specs.History.{identity, state_from}
+use Rattle.entry_tree.proofs.IdentityNumbers.{identity_rises}
+use Rattle.entry_tree.specs.History.{identity}
 use Rattle.entry_tree.specs.State.{has_name, has_parent, is_named, most_entries, put, total_weight}
 use Rattle.entry_tree.specs.declared.entry.Entry.{Entry}
 use Rattle.entry_tree.specs.declared.op.Op.{Op}
@@ -22,7 +22,8 @@ use Rattle.entry_tree.specs.declared.op.Write.{Write}
 use Rattle.entry_tree.proofs.Putting.{put_after}
 use Rattle.directory_writes.specs.Directory.{DirectoryState, code_of_judged, csn_of_next_write, entries_after, entries_of, has_room, judged, judged_at, judged_code, last_csn, last_csn_of, most_writes, most_writes_weight, with_write}
 use Rattle.directory_writes.specs.Weights.{kept_weight, op_weight}
-use Rattle.directory_writes.proofs.Writes.{entries_after-push, judged_good, kept_weight-push, last_csn-push}
+use Rattle.directory_writes.proofs.Csns.{last_csn-push}
+use Rattle.directory_writes.proofs.Writes.{entries_after-none, entries_after-push, judged_good, kept_weight-push}
 use Rattle.sync_config.specs.Keys.{Name}
 use Rattle.sync_provider.specs.Machine.{judged_by}
 use Rattle.sync_provider.specs.Ports.{PortState, WriteReplies, noted, wrote_in}
@@ -79,14 +80,10 @@ pub record IsFilled (d : DirectoryState) : Type 0 where
   pub counted : (last_csn_of d).count ≤ length d.writes
   pub few : length d.writes ≤ most_writes
 
-nothing_yet : (history : ℕ) → entries_after history [] ≡ []
-unfolding state_from
-nothing_yet history = refl
-
 filled_first : (d : DirectoryState) → d.writes ≡ [] → IsFilled d
 filled_first d empty = record {
   low = ap (λ (writes : List Write). all_below (identity d.history (length d.writes + 1)) (entries_after d.history writes)) empty
-      ∙ ap (all_below (identity d.history (length d.writes + 1))) (nothing_yet d.history);
+      ∙ ap (all_below (identity d.history (length d.writes + 1))) (entries_after-none d.history);
   counted =
       let none : (last_csn_of d).count ≡ 0 = ap (λ (writes : List Write). (last_csn (start d.sid) writes).count) empty in
       omega (arith, none);
@@ -106,17 +103,6 @@ put_last e [] low = refl
 put_last e (x ∷ entries) low =
     let both = and_parts (nat_lt x.uuid e.uuid) (all_below e.uuid entries) low in
     put_after e x entries (ltb-true x.uuid e.uuid both.0) ∙ ap (λ es. x ∷ es) (put_last e entries both.1)
-
-sum_rises : (prefix a b : ℕ) → a < b → prefix + a < prefix + b
-sum_rises prefix a b less = omega (arith, less)
-
--- the identity of a later write is above
-identity_rises : (history n : ℕ) → n + 1 < 2 ^ 62 → identity history n < identity history (n + 1)
-identity_rises history n low =
-    let here : n % 2 ^ 62 ≡ n = mod-eq_of_lt (omega (arith, low)) in
-    let later : (n + 1) % 2 ^ 62 ≡ n + 1 = mod-eq_of_lt low in
-    let less : n % 2 ^ 62 < (n + 1) % 2 ^ 62 = omega (arith, here, later) in
-    sum_rises ((history % 2 ^ 48) * 2 ^ 80 + 8 * 2 ^ 76 + 2 * 2 ^ 62) (n % 2 ^ 62) ((n + 1) % 2 ^ 62) less
 
 -- ---- one add more
 
@@ -259,7 +245,7 @@ alike_turned p q alike = record {
 
 empty_bare : (d : DirectoryState) → d.writes ≡ [] → map bare (entries_of d) ≡ []
 empty_bare d empty =
-    ap (λ (writes : List Write). map bare (entries_after d.history writes)) empty ∙ ap (map bare) (nothing_yet d.history)
+    ap (λ (writes : List Write). map bare (entries_after d.history writes)) empty ∙ ap (map bare) (entries_after-none d.history)
 
 -- without writes they are alike where they are of one kind and suffix
 pub alike_empty : (p q : PortState) → p.kind ≡ q.kind → p.directory.suffix ≡ q.directory.suffix

@@ -25,7 +25,7 @@ use Rattle.directory_setup.specs.declared.refusal.SetupRefusal.{SetupRefusal}
 use Rattle.directory_setup.specs.declared.refusal.SetupRefusal.TheVariants.{AtLine, InConfig}
 use Rattle.directory_setup.specs.declared.refusal.TooLong.{TooLong}
 use Rattle.directory_setup.specs.declared.setup.Configured.TheVariants as configured
-use Rattle.directory_setup.specs.declared.setup.QueueLimits.{QueueLimits}
+use Rattle.directory_setup.specs.declared.setup.DirectoryLimits.{DirectoryLimits}
 use Rattle.directory_setup.specs.declared.setup.ReadyDirectory.{ReadyDirectory}
 use Rattle.directory_setup.specs.declared.setup.Setup.TheVariants.{Refused}
 use Rattle.directory_setup.proofs.Alike.{AreAlike, alike_empty}
@@ -145,7 +145,7 @@ record IsPlaced (suffix : Name) (kind : Kind) (p : PortState) : Type 0 where
   pub suffix_is : p.directory.suffix ≡ suffix
   pub empty : p.directory.writes ≡ []
 
-placed : (suffix : Name) (kind : Kind) (sid : ℕ) (limits : QueueLimits) (first : JournalledProvider) → IsEmpty suffix kind sid limits first → IsPlaced suffix kind (port_state first)
+placed : (suffix : Name) (kind : Kind) (sid : ℕ) (limits : DirectoryLimits) (first : JournalledProvider) → IsEmpty suffix kind sid limits first → IsPlaced suffix kind (port_state first)
 placed suffix kind sid limits first empty = record {
   kind_is = ap (λ (s : ProviderState). s.kind) empty.first_is;
   suffix_is = ap (λ (s : ProviderState). s.directory.suffix) empty.first_is;

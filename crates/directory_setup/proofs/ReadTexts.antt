@@ -1,7 +1,6 @@
 -- What was read of a file.
-use Rattle.std.proofs.Common.{◌≡◌, ◌≢◌, ℕ, ◌<◌, Bool, true, false, List, length, Option, Some, None, IfSome, Result, Ok, Err, is_some, refl, subst, sym, ◌∙◌, arith}
+use Rattle.std.proofs.Common.{◌≡◌, ◌≢◌, ℕ, ◌<◌, Bool, true, false, List, length, Option, Some, None, IfSome, is_some, refl, subst, sym, ◌∙◌, arith}
 use Rattle.std.specs.Io.KnownBytes.{Consumes, IsAtEnd}
-use Rattle.std.specs.Prelude.{OnErr}
 use Rattle.sync_io.specs.Faults.{CountHasRisen, one_more}
 use Rattle.sync_io.specs.Shelf.{IsFile}
 use Rattle.directory_setup.specs.Setup.{Files, IsReadFrom, IsTextOf}
@@ -53,8 +52,3 @@ given_back old mid new before after same fresh rose counts =
 -- a text came, so what holds unless a read failed does hold
 pub text_read : (Holds : Type 0) (file : FileText) (text : List ℕ) → file ≡ found.Text text → (file ≢ found.Failed → Holds) → Holds
 text_read Holds file text is holds = holds (λ failed. let wrong : found.Text text ≡ found.Failed = sym is ∙ failed in cc)
-
--- what holds anyway holds where memory ran out
-pub holds_anyway : {T E P : Type 0} (result : Result T E) → P → OnErr result P
-holds_anyway (Ok value) holds = tt
-holds_anyway (Err memory) holds = holds

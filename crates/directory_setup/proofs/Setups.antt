@@ -10,7 +10,7 @@ use Rattle.sync_provider.specs.Machine.{ProviderState, fresh, log_limited, queue
 use Rattle.sync_provider.specs.Ports.{PortState}
 use Rattle.sync_provider.specs.declared.provider.Kind.{Kind}
 use Rattle.directory_setup.specs.Setup.{FailsOn, Files, HasFilter, HasSeats, IsConfig, IsEmpty, IsFirst, Loads, Makes, SetsUp, access_by, setup_of}
-use Rattle.directory_setup.specs.declared.setup.QueueLimits.{QueueLimits}
+use Rattle.directory_setup.specs.declared.setup.DirectoryLimits.{DirectoryLimits}
 use Rattle.directory_setup.specs.declared.setup.Loading.{Loading}
 use Rattle.directory_setup.specs.declared.setup.Loading.TheVariants.{Loaded, NotRead, RefusedAt}
 use Rattle.directory_setup.specs.declared.setup.ReadyDirectory.{ReadyDirectory}
@@ -18,7 +18,7 @@ use Rattle.directory_setup.specs.declared.setup.Setup.{Setup}
 use Rattle.directory_setup.specs.declared.setup.Setup.TheVariants.{Ready, Refused, ReadFault}
 
 -- a new provider with its limits is the empty directory
-pub empty_made : (suffix : List (List TypeAndValue)) (kind : Kind) (sid : ℕ) (limits : QueueLimits) (made limited queued : JournalledProvider) (history one other : ℕ)
+pub empty_made : (suffix : List (List TypeAndValue)) (kind : Kind) (sid : ℕ) (limits : DirectoryLimits) (made limited queued : JournalledProvider) (history one other : ℕ)
     → made.state ≡ fresh suffix sid history kind → port_state made ≡ fresh_port suffix sid history kind
     → history ≡ one * 2 ^ 64 + other
     → limited ≡ record made { state = log_limited made.state limits.log }

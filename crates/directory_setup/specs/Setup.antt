@@ -23,7 +23,7 @@ use Rattle.directory_setup.specs.declared.refusal.SetupRefusal.{SetupRefusal}
 use Rattle.directory_setup.specs.declared.refusal.SetupRefusal.TheVariants.{InConfig, AtLine}
 use Rattle.directory_setup.specs.declared.refusal.LineCause.{LineCause}
 use Rattle.directory_setup.specs.declared.refusal.LineCause.TheVariants.{LimitReached}
-use Rattle.directory_setup.specs.declared.setup.QueueLimits.{QueueLimits}
+use Rattle.directory_setup.specs.declared.setup.DirectoryLimits.{DirectoryLimits}
 use Rattle.directory_setup.specs.declared.setup.ReadyDirectory.{ReadyDirectory}
 use Rattle.directory_setup.specs.declared.setup.Configured.{Configured}
 use Rattle.directory_setup.specs.declared.setup.Configured.TheVariants as configured
@@ -53,7 +53,7 @@ place_of None false = ([], Root)
 place_of (Some name) false = (name, Root)
 
 -- an empty directory, whose history is two random words
-abbrev pub first_of : List (List TypeAndValue) → Kind → (sid : ℕ) → QueueLimits
+abbrev pub first_of : List (List TypeAndValue) → Kind → (sid : ℕ) → DirectoryLimits
     → (first second : ℕ)
     → machine.ProviderState
 first_of suffix kind sid limits first second =
@@ -62,7 +62,7 @@ first_of suffix kind sid limits first second =
     limits.queue
 
 pub record IsEmpty
-    (suffix : List (List TypeAndValue)) (kind : Kind) (sid : ℕ) (limits : QueueLimits)
+    (suffix : List (List TypeAndValue)) (kind : Kind) (sid : ℕ) (limits : DirectoryLimits)
     (first : JournalledProvider) : Type 0 where
   pub one : ℕ
   pub other : ℕ

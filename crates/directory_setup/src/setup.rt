@@ -98,7 +98,7 @@ const WORDS: u128 = 18_446_744_073_709_551_616;
 /// How many touches of entries a session log keeps, and how many messages a search may have
 /// pending.
 #[derive(Clone, Copy, Debug)]
-pub(crate) struct QueueLimits {
+pub(crate) struct DirectoryLimits {
     pub(crate) log: u64,
     pub(crate) queue: u64,
 }
@@ -241,10 +241,10 @@ fn place_of(alloc: Global, suffix: Option<Dn>, upstream: &Option<Upstream>) -> (
     }
 }
 
-fn queue_limits(log: u64, queue: u64) -> QueueLimits
+fn queue_limits(log: u64, queue: u64) -> DirectoryLimits
     ensures { result ≡ record { log = log; queue = queue } }
 {
-    QueueLimits { log, queue }
+    DirectoryLimits { log, queue }
 }
 
 /// The empty directory of a configuration, or None where no random word came.
@@ -252,7 +252,7 @@ fn first_of<W: Words>(
     alloc: Global,
     place: (Dn, Kind),
     sid: u16,
-    limits: QueueLimits,
+    limits: DirectoryLimits,
     random: &mut W,
 ) -> Result<Option<Provider>, NoMemory>
     requires { sid < 4096 }

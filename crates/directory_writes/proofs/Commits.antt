@@ -111,6 +111,26 @@ open_held entries = by (nat_lt most_entries (length entries)) (nat_lt most_weigh
     by false false (Some pair) h = absurd (false≢true h)
     by false false None h = refl
 
+-- nothing rejects a commit, or a limit of the writes that are kept
+abbrev pub OnlyLimits : Option DirectoryCommitFault → Type 0
+OnlyLimits None = Unit {0}
+OnlyLimits (Some (LimitReached limit)) = Unit {0}
+OnlyLimits (Some (DuplicateName one other)) = ⊥
+OnlyLimits (Some NoMemory) = ⊥
+
+-- where it leaves what a directory may have, nothing else rejects it
+pub only_limits : (d : DirectoryState) (puts : List Entry) (drops : List ℕ) (now : ℕ) → is_directory_content (committed (entries_of d) puts drops) ≡ true → OnlyLimits (commit_refusal d puts drops now)
+only_limits d puts drops now held =
+    subst (λ against. OnlyLimits (option_or (log_refusal d (op_weight (Commit puts drops)) now) against)) (sym (open_held (committed (entries_of d) puts drops) held))
+    (by (nat_le most_writes (length d.writes)) (nat_lt most_writes_weight (kept_weight d.writes + op_weight (Commit puts drops))) (is_none (csn_of_next_write d now)))
+  where
+    by : (full heavy none : Bool)
+        → OnlyLimits (option_or (cond full (Some (LimitReached most_writes)) (cond heavy (Some (LimitReached most_writes_weight)) (cond none (Some (LimitReached greatest_count)) None))) None)
+    by true heavy none = tt
+    by false true none = tt
+    by false false true = tt
+    by false false false = tt
+
 abbrev of_refusal : CommitRefusal → DirectoryCommitFault
 of_refusal refusals.TooMany = LimitReached most_entries
 of_refusal refusals.TooHeavy = LimitReached most_weight

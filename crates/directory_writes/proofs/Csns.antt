@@ -44,9 +44,9 @@ unfolding IsStrictlySortedBy
 rises-none sid = (tt, tt)
 
 -- the last CSN is that of the last write
-pub last_csn_pushed : (first : CsnValue) (writes : List Write) (write : Write) → last_csn first (writes ++ write ∷ []) ≡ write.csn
-last_csn_pushed first [] write = refl
-last_csn_pushed first (next ∷ writes) write = last_csn_pushed next.csn writes write
+pub last_csn-push : (first : CsnValue) (writes : List Write) (write : Write) → last_csn first (writes ++ write ∷ []) ≡ write.csn
+last_csn-push first [] write = refl
+last_csn-push first (next ∷ writes) write = last_csn-push next.csn writes write
 
 -- ---- how many CSNs are not above the last of a prefix
 

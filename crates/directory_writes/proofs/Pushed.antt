@@ -25,7 +25,7 @@ use Rattle.sync_model.proofs.Gather.{Each}
 use Rattle.sync_model.proofs.Steps.{among-differing}
 use Rattle.directory_writes.specs.Directory.{entries_after, last_csn, IsNumbered, AreNumbered}
 use Rattle.directory_writes.specs.Touches.{Numbers, uuids_of, last_touch, logged, notes_of, all_notes, IsLogged, number_at, is_number_kept, renewed_by, renewed}
-use Rattle.directory_writes.proofs.Csns.{last_csn_pushed}
+use Rattle.directory_writes.proofs.Csns.{last_csn-push}
 use Rattle.directory_writes.proofs.Keyed.{closed_at, closed-dropped, dropped_at, dropped-other, dropped-same, opened-other, opened-same}
 use Rattle.directory_writes.proofs.Notified.{Agree, agree-longer, notes-agree, last-agree, last-low, noted_each-is}
 
@@ -148,7 +148,7 @@ touched_now : (first : CsnValue) (writes : List Write) (w : Write) (e : Entry) (
 touched_now first writes w e true own = refl
 touched_now first writes w e false own =
     let end : length (writes ++ w ∷ []) ≤ length writes + 1 = omega (arith, length-append writes (w ∷ [])) in
-    own refl ∙ sym (ap (last_csn first) (take_all (length writes + 1) (writes ++ w ∷ []) end) ∙ last_csn_pushed first writes w)
+    own refl ∙ sym (ap (last_csn first) (take_all (length writes + 1) (writes ++ w ∷ []) end) ∙ last_csn-push first writes w)
 
 -- what is known of an earlier write stays
 still_touched : (first : CsnValue) (writes : List Write) (w : Write) (csn : CsnValue) (touch : ℕ) (number : Option ℕ) → touch ≤ length writes

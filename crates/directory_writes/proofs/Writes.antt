@@ -36,7 +36,7 @@ use Rattle.session_log.proofs.Covering.{IsLogOf-fresh, IsLogOf-trimmed}
 use Rattle.directory_writes.proofs.Apart.{commit_apart}
 use Rattle.directory_writes.proofs.Judged.{accepted-push}
 use Rattle.directory_writes.proofs.Pushed.{logged-push, numbered-push}
-use Rattle.directory_writes.proofs.Csns.{last_csn_pushed, rises-none, rises-push, next_rises}
+use Rattle.directory_writes.proofs.Csns.{last_csn-push, rises-none, rises-push, next_rises}
 use Rattle.directory_writes.proofs.Stamped.{stamped}
 
 state_from-push : (history : ℕ) (entries : List Entry) (before : ℕ) (writes : List Write) (write : Write)
@@ -59,9 +59,10 @@ entries_after-push history writes write =
     let number : 0 + length writes + 1 ≡ length writes + 1 = omega arith in
     state_from-push history [] 0 writes write ∙ ap (λ n. effect (entries_after history writes) write.op (identity history n) write.csn) number
 
--- the last CSN is that of the last write
-pub last_csn-push : (first : CsnValue) (writes : List Write) (write : Write) → last_csn first (writes ++ write ∷ []) ≡ write.csn
-last_csn-push first writes write = last_csn_pushed first writes write
+-- without writes there are no entries
+pub entries_after-none : (history : ℕ) → entries_after history [] ≡ []
+unfolding state_from
+entries_after-none history = refl
 
 -- one write more weighs more by its own weight
 pub kept_weight-push : (writes : List Write) (write : Write) → kept_weight (writes ++ write ∷ []) ≡ kept_weight writes + op_weight write.op

@@ -1,8 +1,7 @@
 -- Writes of several writers, each in a part of the names of its own.
-use Rattle.std.proofs.Common.{◌≡◌, ◌≢◌, ℕ, ◌+◌, ◌*◌, ◌%◌, ◌^◌, ◌<◌, ◌==◌, Bool, true, false, not, ◌&&◌, nat_lt, if◌then◌else◌, List, [], ◌∷◌, ◌++◌, map, fold, length, Option, Some, None, refl, sym, ap, ◌∙◌, subst, arith}
+use Rattle.std.proofs.Common.{◌≡◌, ◌≢◌, ℕ, ◌+◌, ◌^◌, ◌<◌, ◌==◌, Bool, true, false, not, ◌&&◌, nat_lt, if◌then◌else◌, List, [], ◌∷◌, ◌++◌, map, fold, length, Option, Some, None, refl, sym, ap, ◌∙◌, subst, arith}
 use Rattle.std.specs.List.{list_all}
 use Rattle.std.proofs.lemmas.Bool.{and_parts, and_from, false≢true, ltb-true, lt-ltb, eqb-true, eq-eqb}
-use Rattle.std.proofs.Math.Nat.{mod-eq_of_lt}
 use Rattle.csn_cookie.specs.Csn.{CsnValue}
 use Rattle.dn_names.specs.Names.{TypeAndValue}
 use Rattle.entry_writes.specs.declared.edit.Edit.{Edit}
@@ -11,6 +10,7 @@ use Rattle.entry_writes.specs.declared.op.Op.{Op}
 use Rattle.entry_writes.specs.declared.op.Op.TheVariants.{Add, Delete, Modify, Rename, Commit}
 use Rattle.entry_writes.specs.declared.op.Write.{Write}
 use Rattle.entry_writes.specs.Effects.{edited, modified, moved, new_name, new_attributes, renamed, effect}
+use Rattle.entry_tree.proofs.IdentityNumbers.{identity_rises}
 use Rattle.entry_tree.specs.History.{identity, state_from}
 use Rattle.entry_writes.specs.Sound.{is_commit}
 use Rattle.entry_writes.specs.State.{ascends, is_identified, is_named, entry_named}
@@ -88,17 +88,6 @@ before_effect (Modify name edits) entries u v csn asked less low =
 before_effect (Rename name rdn deletes superior) entries u v csn asked less low =
     before_renamed v entries (entry_named entries name) rdn deletes superior csn (before_higher u v entries less low)
 before_effect (Commit puts drops) entries u v csn asked less low = absurd (false≢true (sym asked))
-
-sum_rises : (prefix a b : ℕ) → a < b → prefix + a < prefix + b
-sum_rises prefix a b less = omega (arith, less)
-
--- the identity of the next write is above
-pub identity_rises : (history n : ℕ) → n + 1 < 2 ^ 62 → identity history n < identity history (n + 1)
-identity_rises history n low =
-    let here : n % 2 ^ 62 ≡ n = mod-eq_of_lt (omega (arith, low)) in
-    let later : (n + 1) % 2 ^ 62 ≡ n + 1 = mod-eq_of_lt low in
-    let less : n % 2 ^ 62 < (n + 1) % 2 ^ 62 = omega (arith, here, later) in
-    sum_rises ((history % 2 ^ 48) * 2 ^ 80 + 8 * 2 ^ 76 + 2 * 2 ^ 62) (n % 2 ^ 62) ((n + 1) % 2 ^ 62) less
 
 no_commit : (own : Name → Bool) (op : Op) → IsWithin own op → is_commit op ≡ false
 no_commit own (Add name attrs) within = refl

@@ -8,6 +8,7 @@ use Rattle.entry_writes.specs.declared.entry.Entry.{Entry}
 use Rattle.entry_writes.specs.declared.op.Op.{Op}
 use Rattle.entry_writes.specs.declared.op.Write.{Write}
 use Rattle.entry_writes.specs.Effects.{effect}
+use Rattle.entry_tree.proofs.IdentityNumbers.{identity_rises}
 use Rattle.entry_tree.specs.History.{identity, state_from}
 use Rattle.entry_tree.specs.Selection.{Search, is_in_scope, is_selected, select}
 use Rattle.drill_plan.specs.declared.plan.DrillPlan.{DrillPlan}
@@ -23,7 +24,7 @@ use Rattle.drill_plan.proofs.Gathered.{among, all_pass, alike_among}
 use Rattle.drill_plan.proofs.Plainly.{Name, plain_effect}
 use Rattle.drill_plan.proofs.Planned.{writer_within}
 use Rattle.drill_plan.proofs.Regions.{IsWithin, part}
-use Rattle.drill_plan.proofs.Runs.{Each, IsReady, identity_rises, part_runs, others_run}
+use Rattle.drill_plan.proofs.Runs.{Each, IsReady, part_runs, others_run}
 use Rattle.drill_plan.proofs.Units.{own, is_short, own_region, own_apart, own_long}
 
 -- ---- operations by the numbers of their writers

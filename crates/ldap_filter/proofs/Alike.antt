@@ -17,14 +17,11 @@ use Rattle.ldap_filter.specs.Truth.{conjunction, disjunction, opposite, item_tru
 asked_as : (one other : List ℕ) → str_eq_ignore_ascii_case one other ≡ true → asked_type one ≡ asked_type other
 asked_as one other same = rw (type_named-alike one other same) refl
 
-bytes_as : (one other : List ℕ) → bytes_eq one other ≡ true → one ≡ other
-bytes_as one other same = (bytes_eq-Decides one other).0 same
-
 maybe_as : (one other : Option (List ℕ)) → option_eq bytes_eq one other ≡ true → one ≡ other
 maybe_as None None same = refl
 maybe_as None (Some b) same = let never : false ≡ true = same in cc
 maybe_as (Some a) None same = let never : false ≡ true = same in cc
-maybe_as (Some a) (Some b) same = ap Some (bytes_as a b same)
+maybe_as (Some a) (Some b) same = ap Some ((bytes_eq-Decides a b).0 same)
 
 lists_as : (one other : List (List ℕ)) → lists_eq one other ≡ true → one ≡ other
 lists_as one other same = (slice_eq-Decides bytes_eq-Decides one other (lists_eq one other) refl).0 same
@@ -36,7 +33,7 @@ record AreItems (n v m w : List ℕ) : Type 0 where
 items_as : (n v m w : List ℕ) → same_item n v m w ≡ true → AreItems n v m w
 items_as n v m w same =
     let both = and_parts (str_eq_ignore_ascii_case n m) (bytes_eq v w) same in
-    record { type = asked_as n m both.0; value = bytes_as v w both.1 }
+    record { type = asked_as n m both.0; value = (bytes_eq-Decides v w).0 both.1 }
 
 mutual
   -- one of two filters that match has the truth of the other on any attributes

@@ -52,7 +52,7 @@ pub(crate) fn hex_value(byte: u8) -> Option<u8>
 }
 
 /// The length of the longest prefix that is UTF-8 text.
-#[tactic(auto, using(crate::proofs::Utf8::whole_text, crate::proofs::Utf8::text_within))]
+#[tactic(auto, using(crate::proofs::Utf8::whole_text, std::proofs::lemmas::Str::utf8_valid_len_le))]
 pub(crate) fn text_len(bytes: &[u8]) -> usize
     ensures len { result ≡ utf8_valid_len bytes.now }
     ensures within { result ≤ length bytes.now }

@@ -1,8 +1,9 @@
 -- A connection that was served, as its link reports it.
-use Rattle.std.proofs.Common.{◌≡◌, ◌≢◌, inl, inr, false, ℕ, ◌<◌, List, [], ◌++◌, Option, Some, None, refl, sym, ap, subst, arith}
+use Rattle.std.proofs.Common.{◌≡◌, ◌≢◌, inl, inr, false, ℕ, List, [], ◌++◌, Option, Some, None, refl, sym, ap, subst}
 use Rattle.std.specs.List.{flat_map}
 use Rattle.std.specs.Io.KnownBytes.{Appends}
 use Rattle.std.proofs.lemmas.List.{append-nil}
+use Rattle.sync_io.proofs.Sides.{rose_from}
 use Rattle.sync_io.specs.Faults.{CountHasRisen}
 use Rattle.sync_io.specs.Sink.{AppendsPrefix}
 use Rattle.sync_provider.specs.Ports.{PortState}
@@ -47,9 +48,6 @@ from_nothing old new bytes is appended = step new (subst (λ o. Appends o new by
     step None h = absurd h
     step (Some xs) h = ap (λ (ys : List ℕ). Some ys) h
 
-some_faults : (old new : ℕ) → old ≡ 0 → CountHasRisen old new → 0 < new
-some_faults old new none rose = omega (arith, none, rose)
-
 module _ {L : Type 0} (v : LinkView L) (access : Access) where
   abbrev bytes_of : L → LinkBytes
   bytes_of l = record { left = v.left l; read = v.read l; held = v.held l }
@@ -71,8 +69,8 @@ module _ {L : Type 0} (v : LinkView L) (access : Access) where
             read_all = from_nothing (v.read old) (v.read new) (flat_map brought_by s.events) f.unused.unread s.read;
             held_all = from_nothing (v.held old) (v.held new) w.written f.unused.unwritten w.appended;
             at_end = λ end. s.at_end refl end;
-            read_failed = λ end. some_faults (v.read_faults old) (v.read_faults new) f.sound.reads (unread end);
-            write_failed = λ end. some_faults (v.write_faults old) (v.write_faults new) f.sound.writes (unwritten end);
+            read_failed = λ end. rose_from (v.read_faults old) (v.read_faults new) f.sound.reads (unread end);
+            write_failed = λ end. rose_from (v.write_faults old) (v.write_faults new) f.sound.writes (unwritten end);
           };
         },
       )

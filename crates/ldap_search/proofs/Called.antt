@@ -3,6 +3,7 @@ use Rattle.std.proofs.Common.{◌≡◌, ◌≢◌, ◌<◌, ◌≤◌, ◌+◌,
 use Rattle.std.specs.Prelude.{IfOk, IfSome, OnErr, option_map}
 use Rattle.entry_tree.specs.Selection.{Search}
 use Rattle.ldap_client.specs.Links.{LinkState}
+use Rattle.sync_io.proofs.Sides.{rose_from}
 use Rattle.sync_io.specs.Dial.{Dialled, dials, hangs_up}
 use Rattle.sync_io.specs.Faults.{CountHasRisen, one_more}
 use Rattle.sync_io.specs.Links.{HasNoFaults}
@@ -22,10 +23,6 @@ output_fails spec None first now old new (inl asks) = asks.1.ends.3
 output_fails spec None first now old new (inr fails) = absurd (let wrong : OutputFault ≡ NetFault = fails.0 in cc)
 output_fails spec (Some count) first now old new (inl follows) = follows.ends.0.failed
 output_fails spec (Some count) first now old new (inr fails) = absurd (let wrong : OutputFault ≡ NetFault = fails.0 in cc)
-
--- a count that rose from nothing
-rose_from : (before now : ℕ) → before ≡ 0 → CountHasRisen before now → 0 < now
-rose_from before now none rose = omega (arith, none, rose)
 
 read_failed : (first now : LinkState) → HasNoFaults first.read_faults first.write_faults → CountHasRisen first.read_faults now.read_faults → 0 < now.read_faults + now.write_faults
 read_failed first now sound rose = omega (arith, rose_from first.read_faults now.read_faults sound.reads rose)

@@ -20,11 +20,6 @@ pub asks_same : (whole other : MessageValue) (old new : ClientState) (result : R
     → Asks (message_octets other) old result new
 asks_same whole other old new result is asks = subst (λ (m : MessageValue). Asks (message_octets m) old result new) is asks
 
--- what holds anyway holds where memory ran out
-pub holds_anyway : {T E P : Type 0} (result : Result T E) → P → OnErr result P
-holds_anyway (Ok value) holds = tt
-holds_anyway (Err fault) holds = holds
-
 -- out of memory nothing was written, and no call failed
 pub unwritten : (octets : List ℕ) (fault : ClientFault) (old new : ClientState) → Asks octets old (Err fault) new → fault ≡ NoMemory
     → (new.link.held ≡ old.link.held) × IsLinkSound old.link new.link

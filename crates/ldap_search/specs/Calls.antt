@@ -1,15 +1,15 @@
 -- A search over a net: one link, which is asked for once and hung up.
-use Rattle.std.specs.Prelude.{◌≡◌, ◌⊎◌, ◌<◌, ◌+◌, ℕ, true, false, List, Option, Some, None, IfSome, option_map}
+use Rattle.std.specs.Prelude.{◌≡◌, ◌≢◌, ◌⊎◌, ◌<◌, ◌+◌, ℕ, true, false, List, Option, Some, None, IfOk, IfSome, OnErr, Result, option_map}
 use Rattle.entry_tree.specs.Selection.{Search}
 use Rattle.sync_io.specs.Dial.{Dialled, dials, hangs_up}
-use Rattle.sync_io.specs.Faults.{one_more}
+use Rattle.sync_io.specs.Faults.{CountHasRisen, one_more}
 use Rattle.sync_io.specs.Links.{HasNoFaults, IsUnused}
 use Rattle.sync_io.specs.Net.{Served, calls, retires}
 use Rattle.sync_io.specs.ToCome.{IsNextToCome}
 use Rattle.ldap_client.specs.Links.{LinkState}
 use Rattle.ldap_search.specs.Talks.{AsksPlainly, AsksPlainlyInPart, AsksToFollow, AsksToFollowInPart, OutputState}
 use Rattle.ldap_search.specs.declared.end.SearchEnd.{SearchEnd}
-use Rattle.ldap_search.specs.declared.end.SearchEnd.TheVariants.{NetFault}
+use Rattle.ldap_search.specs.declared.end.SearchEnd.TheVariants.{NetFault, OutputFault}
 
 -- what is done over the link of a search, with a count or without one
 abbrev pub Talks : Search → (count : Option ℕ) → (first now : LinkState) → OutputState → SearchEnd
@@ -111,3 +111,16 @@ pub record SearchesInPart {L C M : Type 0}
       × IfSome before (λ s. IsNextToCome first s.callers_to_come)
       × CallsInPart seen address spec count first old (dialled caller) new
       × (after ≡ option_map (retires caller) (option_map (calls true) before)))
+
+-- ---- faults
+
+-- the output, and what gives links, count a fault exactly where that ends the search, and none
+-- where memory runs out
+pub record CountsEndingFaults {E : Type 0}
+    (result : Result SearchEnd E) (printed printed' given given' : ℕ) : Type 0 where
+  pub output_failed : IfOk result (λ end. end ≡ OutputFault → CountHasRisen printed printed')
+  pub net_failed : IfOk result (λ end. end ≡ NetFault → CountHasRisen given given')
+  pub output_faultless : IfOk result (λ end. end ≢ OutputFault → printed' ≡ printed)
+  pub net_faultless : IfOk result (λ end. end ≢ NetFault → given' ≡ given)
+  pub output_sound : OnErr result (printed' ≡ printed)
+  pub net_sound : OnErr result (given' ≡ given)

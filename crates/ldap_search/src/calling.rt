@@ -1,6 +1,6 @@
 //! The one link of a search.
 
-ghost use Rattle.std.specs.Prelude.{◌≡◌, ◌≢◌, ◌<◌, ◌≤◌, None, IfOk, IfSome, OnErr, length};
+ghost use Rattle.std.specs.Prelude.{◌≡◌, ◌<◌, ◌≤◌, None, IfOk, IfSome, OnErr, length};
 ghost use Rattle.entry_tree.specs.Selection.{search_of};
 ghost use Rattle.ldap_client.specs.Clients.{client_by, fresh};
 ghost use Rattle.ldap_client.specs.Links.{link_by};
@@ -8,13 +8,13 @@ ghost use Rattle.ldap_filter.specs.FilterTree.{depth, tree_of};
 ghost use Rattle.ldap_search.specs.Calls.{
   CallsInPart,
   CallsOnce,
+  CountsEndingFaults,
   HungUp,
   HungUpInPart,
   Talks,
   TalksInPart,
 };
 ghost use Rattle.ldap_search.specs.Talks.{output_by};
-ghost use Rattle.sync_io.specs.Faults.{CountHasRisen};
 
 use crate::SearchEnd;
 use crate::answering::ask_plainly;
@@ -48,18 +48,9 @@ pub(crate) fn call<R: Wait, D: Dial, O: Sink>(
         let shown = output_by O.bytes_held O.write_fault_count in
         OnErr result (CallsInPart state address.now (search_of spec) count (D.dialled
         dial.old) (shown output.old) (D.dialled dial.new) (shown output.new)) }
-    ensures output_failed { IfOk result (λ end. end ≡ SearchEnd.OutputFault
-        → CountHasRisen (O.write_fault_count output.old) (O.write_fault_count output.new)) }
-    ensures net_failed { IfOk result (λ end. end ≡ SearchEnd.NetFault
-        → CountHasRisen (D.dial_fault_count dial.old) (D.dial_fault_count dial.new)) }
-    ensures output_faultless { IfOk result (λ end. end ≢ SearchEnd.OutputFault
-        → O.write_fault_count output.new ≡ O.write_fault_count output.old) }
-    ensures net_faultless { IfOk result (λ end. end ≢ SearchEnd.NetFault
-        → D.dial_fault_count dial.new ≡ D.dial_fault_count dial.old) }
-    ensures output_sound { OnErr result
-        (O.write_fault_count output.new ≡ O.write_fault_count output.old) }
-    ensures net_sound { OnErr result
-        (D.dial_fault_count dial.new ≡ D.dial_fault_count dial.old) }
+    ensures faults { CountsEndingFaults result
+        (O.write_fault_count output.old) (O.write_fault_count output.new)
+        (D.dial_fault_count dial.old) (D.dial_fault_count dial.new) }
     ensures later { D.dial_fault_count dial.old ≤ D.dial_fault_count dial.new }
 {
     match dial.connect(address) {

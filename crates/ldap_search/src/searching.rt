@@ -1,12 +1,11 @@
 //! Searches over a net.
 
-ghost use Rattle.std.specs.Prelude.{◌≡◌, ◌≢◌, ◌<◌, ◌≤◌, IfOk, IfSome, OnErr};
+ghost use Rattle.std.specs.Prelude.{◌<◌, ◌≤◌, IfOk, IfSome, OnErr};
 ghost use Rattle.entry_tree.specs.Selection.{search_of};
 ghost use Rattle.ldap_client.specs.Links.{link_by};
 ghost use Rattle.ldap_filter.specs.FilterTree.{depth, tree_of};
-ghost use Rattle.ldap_search.specs.Calls.{Searches, SearchesInPart};
+ghost use Rattle.ldap_search.specs.Calls.{CountsEndingFaults, Searches, SearchesInPart};
 ghost use Rattle.ldap_search.specs.Talks.{output_by};
-ghost use Rattle.sync_io.specs.Faults.{CountHasRisen};
 
 use crate::SearchEnd;
 use crate::calling::call;
@@ -43,18 +42,9 @@ pub fn search<R: Wait, O: Sink, N: Net>(
         let shown = output_by O.bytes_held O.write_fault_count in
         OnErr result (SearchesInPart state N.Caller.dialled address.now (search_of spec) count
         (N.served net.old) (shown output.old) (N.served net.new) (shown output.new)) }
-    ensures output_failed { IfOk result (λ end. end ≡ SearchEnd.OutputFault
-        → CountHasRisen (O.write_fault_count output.old) (O.write_fault_count output.new)) }
-    ensures net_failed { IfOk result (λ end. end ≡ SearchEnd.NetFault
-        → CountHasRisen (N.net_fault_count net.old) (N.net_fault_count net.new)) }
-    ensures output_faultless { IfOk result (λ end. end ≢ SearchEnd.OutputFault
-        → O.write_fault_count output.new ≡ O.write_fault_count output.old) }
-    ensures net_faultless { IfOk result (λ end. end ≢ SearchEnd.NetFault
-        → N.net_fault_count net.new ≡ N.net_fault_count net.old) }
-    ensures output_sound { OnErr result
-        (O.write_fault_count output.new ≡ O.write_fault_count output.old) }
-    ensures net_sound { OnErr result
-        (N.net_fault_count net.new ≡ N.net_fault_count net.old) }
+    ensures faults { CountsEndingFaults result
+        (O.write_fault_count output.old) (O.write_fault_count output.new)
+        (N.net_fault_count net.old) (N.net_fault_count net.new) }
     ensures later { N.net_fault_count net.old ≤ N.net_fault_count net.new }
 {
     match net.caller() {

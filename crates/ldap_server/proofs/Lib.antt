@@ -9,6 +9,7 @@ pub mod Exchanging
 pub mod FirstAnswers
 pub mod Going
 pub mod Handing
+pub mod InBatches
 pub mod Linking
 pub mod Performing
 pub mod Requested

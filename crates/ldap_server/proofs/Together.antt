@@ -95,11 +95,6 @@ pub rest_of_grammar : (before after : List Message) → AreOfGrammar (before ++ 
 rest_of_grammar [] after all = all
 rest_of_grammar (message ∷ before) after all = rest_of_grammar before after all.1
 
--- no item is left
-pub none_left : {X : Type 0} (xs : List X) → length xs ≡ 0 → xs ≡ []
-none_left [] none = refl
-none_left (x ∷ xs) none = absurd (omega (arith, none))
-
 -- ---- a turn
 
 -- what comes after the messages, as what was asked last has it

@@ -7,6 +7,7 @@
 #![tactic(auto)]
 
 mod answering;
+mod batches;
 mod binding;
 mod comparing;
 mod connection;

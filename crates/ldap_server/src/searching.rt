@@ -120,9 +120,9 @@ impl<P: Port> Session<P> {
         let reply = self.port.search(&ask);
         discard(ask);
         match reply {
-            SearchReply::Found(entries) => self.send_entries(id, &entries, selection, SUCCESS),
+            SearchReply::Found(entries) => self.send_entries(id, entries, selection, SUCCESS),
             SearchReply::Over(entries) => {
-                self.send_entries(id, &entries, selection, SIZE_LIMIT_EXCEEDED)
+                self.send_entries(id, entries, selection, SIZE_LIMIT_EXCEEDED)
             }
             SearchReply::NoSuchBase => self.respond(id, Response::SearchDone, NO_SUCH_OBJECT),
             SearchReply::NoMemory => self.respond(id, Response::SearchDone, OTHER),

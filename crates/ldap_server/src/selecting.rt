@@ -1,6 +1,6 @@
 //! Entries as a search without content synchronisation is sent them (RFC 4511, section 4.5.2).
 
-ghost use Rattle.std.specs.Prelude.{◌≡◌, [], ◌∷◌, ◌++◌, codes, IfOk, OnOk};
+ghost use Rattle.std.specs.Prelude.{◌≡◌, ◌≤◌, [], ◌∷◌, ◌++◌, codes, drop, length, IfOk, OnOk};
 ghost use Rattle.std.specs.List.{flat_map, list_any};
 ghost use Rattle.csn_cookie.specs.Csn.{csn_text};
 ghost use Rattle.ldap_messages.specs.Whole.{message_value};
@@ -11,11 +11,12 @@ ghost use Rattle.ldap_server.specs.Points.{Sends};
 ghost use Rattle.ldap_server.specs.Seen.{point_in};
 ghost use Rattle.ldap_server.specs.Selecting.{entries_and_done, entry_octets, entry_whole, is_chosen, is_type, has_operational, selected_of, selects_type, sent_of, values_sent};
 
+use crate::batches::in_batches;
 use crate::response::Response;
 use crate::session::Session;
 use csn_cookie::Csn;
 use entry_tree::{Entry, EntryList};
-use ldap_ber::{NoMemory, Octets, OctetsList};
+use ldap_ber::{NoMemory, Octets, OctetsList, discard};
 use ldap_messages::{ControlList, Message, Protocol};
 use schema_rules::{Attribute, AttributeType, RawAttribute, RawList};
 use std::alloc::{AllocError, Global};
@@ -299,29 +300,79 @@ impl<P: Port> Session<P> {
         let _ = self.sent.reserve(room);
     }
 
+    /// Sends the entries of these batches, in their order. Each batch is given up once it is sent.
+    fn send_batches(
+        &mut self,
+        id: u32,
+        batches: Vec<Vec<Entry>>,
+        selection: Selection<'_>,
+    ) -> Result<(), NoMemory>
+        ensures port { self.new.port ≡ self.old.port }
+        ensures sends { Sends
+            (flat_map (λ batch. flat_map (entry_octets id selection.entry.selectors.now
+            selection.entry.types_only) batch.items) batches.items)
+            (point_in P.state self.old) result (point_in P.state self.new) }
+    {
+        for batch in batches {
+            match self.send_each_entry(id, batch.as_slice(), selection) {
+                Ok(()) => {}
+                Err(_) => return Err(AllocError),
+            }
+        }
+        Ok(())
+    }
+
+    /// Sends the entries from a place on, in their order. They are given up a batch at a time while
+    /// they are sent, so that they don't stand beside the whole answer, but for where memory for
+    /// the batches runs out.
+    fn send_from(
+        &mut self,
+        id: u32,
+        entries: EntryList,
+        place: usize,
+        selection: Selection<'_>,
+    ) -> Result<(), NoMemory>
+        requires { place ≤ length entries }
+        ensures port { self.new.port ≡ self.old.port }
+        ensures sends { Sends
+            (flat_map (entry_octets id selection.entry.selectors.now
+            selection.entry.types_only) (drop place entries))
+            (point_in P.state self.old) result (point_in P.state self.new) }
+    {
+        let (_, rest) = entries.list().split_at(place);
+        match in_batches(self.alloc, rest) {
+            Ok(batches) => {
+                discard(entries);
+                self.send_batches(id, batches, selection)
+            }
+            Err(_) => self.send_each_entry(id, rest, selection),
+        }
+    }
+
     /// Sends the entries, and the end with this code.
     pub(crate) fn send_entries(
         &mut self,
         id: u32,
-        entries: &EntryList,
+        entries: EntryList,
         selection: Selection<'_>,
         code: u32,
     ) -> Result<(), NoMemory>
         ensures port { self.new.port ≡ self.old.port }
         ensures sends { Sends
             (entries_and_done id selection.entry.selectors.now selection.entry.types_only
-            entries.now code)
+            entries code)
             (point_in P.state self.old) result (point_in P.state self.new) }
     {
         let held = entries.list();
-        let (first, rest) = held.split_at(held.len().min(SAMPLE));
+        let count = held.len().min(SAMPLE);
+        let (first, rest) = held.split_at(count);
         let before = self.sent.len();
         let Ok(()) = self.send_each_entry(id, first, selection) else {
             return Err(AllocError);
         };
         let octets = self.sent.len().saturating_sub(before);
-        self.make_room(octets, first.len(), rest.len());
-        match self.send_each_entry(id, rest, selection) {
+        self.make_room(octets, count, rest.len());
+        match self.send_from(id, entries, count, selection) {
             Ok(()) => self.respond(id, Response::SearchDone, code),
             Err(_) => Err(AllocError),
         }

@@ -1,16 +1,13 @@
 -- What commits do at a port whose directory has no writes of others.
-use Rattle.std.proofs.Common.{◌≡◌, ℕ, ◌≤◌, Bool, true, false, cond, List, [], ◌∷◌, ◌++◌, length, Option, Some, None, Ok, Err, refl, sym, ap, subst, ◌∙◌}
+use Rattle.std.proofs.Common.{◌≡◌, ℕ, ◌≤◌, true, List, [], ◌∷◌, ◌++◌, length, Option, Some, None, Ok, Err, refl, sym, ap, subst, ◌∙◌}
 use Rattle.std.specs.List.{AllByRecursion}
-use Rattle.std.specs.Option.{option_or}
-use Rattle.std.specs.Prelude.{◌≢◌, ◌+◌, nat_le, nat_lt, is_none, option_map}
+use Rattle.std.specs.Prelude.{◌≢◌, ◌+◌, option_map}
 use Rattle.std.proofs.lemmas.List.Elements.{recursion_from_All}
-use Rattle.csn_cookie.specs.CsnMaker.{greatest_count}
-use Rattle.directory_writes.proofs.Commits.{commit_open, open_held}
+use Rattle.directory_writes.proofs.Commits.{OnlyLimits, commit_open, only_limits}
 use Rattle.directory_writes.proofs.Judged.{judged_is}
 use Rattle.directory_writes.proofs.Writes.{entries_after-push}
 use Rattle.directory_writes.specs.Commits as directory
-use Rattle.directory_writes.specs.Directory.{DirectoryState, csn_of_next_write, entries_of, most_writes, most_writes_weight}
-use Rattle.directory_writes.specs.Weights.{kept_weight, op_weight}
+use Rattle.directory_writes.specs.Directory.{DirectoryState, entries_of}
 use Rattle.directory_writes.specs.declared.commit.DirectoryCommitFault.{DirectoryCommitFault}
 use Rattle.directory_writes.specs.declared.commit.DirectoryCommitFault.TheVariants as cause
 use Rattle.entry_tree.specs.Effects.{committed, effect}
@@ -190,25 +187,6 @@ refused_same n old new commit found commits mine own =
 -- and is of the same kind after it
 pub refused_kind : (old new : PortState) (commit : Commit) (found : CommitFault) → Commits old commit (Err found) new → new.kind ≡ old.kind
 refused_kind old new commit found commits = ap (λ (p : PortState). p.kind) commits.replied.replies.err ∙ later_kind old commits.replied.place commits.replied.later
-
--- where it leaves what a directory may have, nothing but a limit rejects it
-abbrev OnlyLimits : Option DirectoryCommitFault → Type 0
-OnlyLimits None = Unit {0}
-OnlyLimits (Some (cause.LimitReached limit)) = Unit {0}
-OnlyLimits (Some (cause.DuplicateName one other)) = ⊥
-OnlyLimits (Some cause.NoMemory) = ⊥
-
-only_limits : (d : DirectoryState) (puts : List Entry) (drops : List ℕ) (now : ℕ) → is_directory_content (committed (entries_of d) puts drops) ≡ true → OnlyLimits (directory.commit_refusal d puts drops now)
-only_limits d puts drops now held =
-    subst (λ against. OnlyLimits (option_or (directory.log_refusal d (op_weight (op.Commit puts drops)) now) against)) (sym (open_held (committed (entries_of d) puts drops) held))
-    (by (nat_le most_writes (length d.writes)) (nat_lt most_writes_weight (kept_weight d.writes + op_weight (op.Commit puts drops))) (is_none (csn_of_next_write d now)))
-  where
-    by : (full heavy none : Bool)
-        → OnlyLimits (option_or (cond full (Some (cause.LimitReached most_writes)) (cond heavy (Some (cause.LimitReached most_writes_weight)) (cond none (Some (cause.LimitReached greatest_count)) None))) None)
-    by true heavy none = tt
-    by false true none = tt
-    by false false true = tt
-    by false false false = tt
 
 no_double : (r : Option DirectoryCommitFault) (one other : ℕ) → OnlyLimits r → option_map fault_of r ≡ Some (fault.DuplicateName one other) → ⊥
 no_double None one other only is = cc

@@ -21,7 +21,7 @@ use Rattle.sync_provider.specs.HandingOut.HandOut.{Hands, Closes, Waits, Unknown
 use Rattle.sync_provider.specs.Journal.{JournalledProvider, journal_in, followed_in, port_state}
 use Rattle.sync_provider.specs.Machine.{judged_by}
 use Rattle.sync_provider.specs.Opened.{opening_of_ask}
-use Rattle.sync_provider.specs.Ports.{FollowedSearch, PortState, is_open, free_in, noted, wrote_in, committed_by, committed_in, answer_by, answer_in, opened_in, end_of, turn_in, after_turn_in, dropped_in, WriteReplies, CommitReplies, AcceptReplies, HandOutReplies, DropReplies}
+use Rattle.sync_provider.specs.Ports.{FollowedSearch, PortState, is_open, free_in, noted, wrote_in, committed_by, committed_in, answer_by, answer_in, opened_in, end_of, closing_of, turn_in, after_turn_in, dropped_in, WriteReplies, CommitReplies, AcceptReplies, HandOutReplies, DropReplies}
 use Rattle.sync_provider.specs.declared.handed.Handed.{Handed}
 use Rattle.sync_provider.specs.declared.handed.Handed.TheVariants as handed
 use Rattle.sync_provider.specs.declared.journal_note.JournalNote.{JournalNote}
@@ -267,7 +267,7 @@ module _ (number : ℕ) (d : NumberedState) (is : IsNumbered d) (v : JournalledP
     turned None (Some t) found is_new = same_moves number d is v numbers openers is_new nums ops
     turned (Some f) (Some (Hands message)) found is_new = handed_moves number d is v numbers openers k f is_new found opener nums ops
     turned (Some f) (Some (Closes code message)) found is_new =
-        ended_moves number d is v numbers openers k (end_of k (f.handed + 1) f) is_new refl opener nums ops
+        ended_moves number d is v numbers openers k (closing_of k f) is_new refl opener nums ops
     turned (Some f) (Some Waits) found is_new = same_moves number d is v numbers openers is_new nums ops
     turned (Some f) (Some Unknown) found is_new = same_moves number d is v numbers openers is_new nums ops
 
@@ -285,7 +285,7 @@ module _ (number : ℕ) (d : NumberedState) (is : IsNumbered d) (v : JournalledP
 
     dropped : (f : Option FollowedSearch) → old.followed k ≡ f → new ≡ dropped_in old k f → Moves number d after (λ p. dropped_in p k f)
     dropped None found is_new = same_moves number d is v numbers openers is_new nums ops
-    dropped (Some f) found is_new = ended_moves number d is v numbers openers k (end_of k f.handed f) is_new refl opener nums ops
+    dropped (Some f) found is_new = ended_moves number d is v numbers openers k (end_of k f) is_new refl opener nums ops
 
     -- so is the dropping of a search that this port opened
     pub drop_answered : (result : Bool) → DropReplies old k result new → KeepsNumbers number d after (λ p q. DropReplies p k result q)

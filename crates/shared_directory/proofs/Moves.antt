@@ -6,7 +6,7 @@ use Rattle.std.proofs.lemmas.List.{take-append-le, drop-append-le}
 use Rattle.entry_tree.specs.declared.op.Write.{Write}
 use Rattle.sync_provider.specs.Journal.{JournalledProvider, port_state}
 use Rattle.sync_provider.specs.Opened.{SearchOpening}
-use Rattle.sync_provider.specs.Ports.{Journal, FollowedSearch, PortState, is_open, followed_after, noted, opened_in, handed_in, ended_in}
+use Rattle.sync_provider.specs.Ports.{Journal, FollowedSearch, PortState, is_open, followed_after, noted, opened_in, followed_on, handed_in, ended_in}
 use Rattle.sync_provider.specs.declared.journal_note.ClosedSearch.{ClosedSearch}
 use Rattle.sync_provider.specs.declared.journal_note.JournalNote.{JournalNote}
 use Rattle.sync_provider.specs.declared.journal_note.JournalNote.TheVariants.{Wrote, Opened, Closed}
@@ -258,7 +258,7 @@ module _ (number : ℕ) (d : NumberedState) (is : IsNumbered d) (v : JournalledP
     opened_journal = ap (λ p. p.journal) is_new
 
     abbrev fresh : Option FollowedSearch
-    fresh = Some (record { opened = o; handed = 0; over = false })
+    fresh = Some (record { opened = o; handed = 0; marks = o.accepted ∷ []; over = false })
 
     not_followed : old.followed o.number ≡ None
     not_followed = by (old.followed o.number) (is.followed o.number ∙ free)
@@ -315,7 +315,7 @@ module _ (number : ℕ) (d : NumberedState) (is : IsNumbered d) (v : JournalledP
   module _ (k : ℕ) (f : FollowedSearch) (is_new : new ≡ handed_in old k f) (found : old.followed k ≡ Some f)
       (opener : slice_index d.openers k ≡ number) (nums : numbers ≡ d.numbers) (ops : openers ≡ d.openers) where
     abbrev handed : Option FollowedSearch
-    handed = Some (record f { handed = f.handed + 1 })
+    handed = Some (followed_on old.directory f)
 
     handed_journal : new.journal ≡ old.journal
     handed_journal = ap (λ p. p.journal) is_new

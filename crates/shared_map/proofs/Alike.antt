@@ -5,9 +5,6 @@ use Rattle.std.specs.Cmp.Lexicographic.{slice_cmp}
 use Rattle.std.specs.Ordering.{nat_cmp, ordering_then}
 use Rattle.shared_map.specs.Queries.{BeginAlike}
 
-nat_cmp-same : (x y : ℕ) → x ≡ y → nat_cmp x y ≡ Equal
-nat_cmp-same x y e = sym (nat_cmp_is x y Equal e)
-
 -- lists that begin alike are ordered by what follows
 pub slice_cmp-alike : (n : ℕ) (one other : List ℕ) → BeginAlike n one other
     → slice_cmp nat_cmp (drop n one) (drop n other) ≡ slice_cmp nat_cmp one other
@@ -22,4 +19,4 @@ slice_cmp-alike (suc n) (x ∷ one) (y ∷ other) alike =
       same = ap (drop 1) alike.same;
     } in
     slice_cmp-alike n one other left
-    ∙ sym (ap (λ o. ordering_then o (slice_cmp nat_cmp one other)) (nat_cmp-same x y same))
+    ∙ sym (ap (λ o. ordering_then o (slice_cmp nat_cmp one other)) (sym (nat_cmp_is x y Equal same)))

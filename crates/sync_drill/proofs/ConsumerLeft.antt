@@ -11,11 +11,11 @@ use Rattle.link_rings.specs.Ends.{offered}
 use Rattle.link_rings.specs.declared.ends.Consumer.{Consumer}
 use Rattle.link_rings.specs.declared.ends.Producer.{Producer}
 use Rattle.sync_consumer.specs.Taking.{ConsumerState}
-use Rattle.sync_provider.specs.Ports.{HasMet, HasSeenAllOf, Journal, PortState, stream_in, writes_in}
+use Rattle.sync_provider.specs.Ports.{HasMet, HasSeenAllOf, Journal, PortState, writes_in}
 use Rattle.sync_provider.specs.declared.journal_note.JournalNote.{JournalNote}
 use Rattle.drill_plan.specs.Ending.{entries_after, followed_by, history, server}
 use Rattle.drill_plan.specs.Names.{suffix}
-use Rattle.sync_drill.specs.Delivered.{delivered, encoded, search_id, IsMadeOf}
+use Rattle.sync_drill.specs.Delivered.{stream_at_once, delivered, encoded, search_id, IsMadeOf}
 use Rattle.sync_drill.specs.Followed.{HasFollowed}
 use Rattle.sync_drill.specs.Following.{IsSettled}
 use Rattle.sync_drill.specs.Going.{IsDrillPort}
@@ -95,10 +95,10 @@ module _ (number many consumer : ℕ) (upto : PortState) (writes : List Write) (
       copy.copy made
       ∙ ap (select (followed_by consumer)) its_entries
     where
-      all : take done.handing.handed (stream_in upto.directory done.handing.opening) ≡ stream_in upto.directory done.handing.opening
+      all : take done.handing.handed (stream_at_once upto.directory done.handing.opening) ≡ stream_at_once upto.directory done.handing.opening
       all =
-          ap (λ n. take n (stream_in upto.directory done.handing.opening)) done.whole
-          ∙ take_all (length (stream_in upto.directory done.handing.opening)) (stream_in upto.directory done.handing.opening) (omega arith)
+          ap (λ n. take n (stream_at_once upto.directory done.handing.opening)) done.whole
+          ∙ take_all (length (stream_at_once upto.directory done.handing.opening)) (stream_at_once upto.directory done.handing.opening) (omega arith)
 
 -- ---- a consumer in the end
 

@@ -12,12 +12,11 @@ use Rattle.directory_writes.specs.Directory.{DirectoryState, entries_of}
 use Rattle.drill_plan.specs.Ending.{followed_by}
 use Rattle.sync_consumer.specs.Taking.{nothing}
 use Rattle.sync_provider.specs.Opened.{SearchOpening}
-use Rattle.sync_provider.specs.Ports.{stream_in}
 use Rattle.sync_provider.specs.Search.{busy_end}
 use Rattle.sync_provider.specs.declared.journal_note.ClosedSearch.{ClosedSearch}
 use Rattle.sync_provider.specs.declared.journal_note.JournalNote.{JournalNote}
 use Rattle.sync_provider.specs.declared.journal_note.JournalNote.TheVariants.{Wrote, Opened, Closed}
-use Rattle.sync_drill.specs.Delivered.{search_id, handed_of, handed_by, delivered, encoded, IsReadFrom, IsMadeOf, copy_after}
+use Rattle.sync_drill.specs.Delivered.{search_id, stream_at_once, handed_of, handed_by, delivered, encoded, IsReadFrom, IsMadeOf, copy_after}
 use Rattle.sync_drill.specs.Handing.{IsOpening, EndsBusy, AllEndBusy}
 use Rattle.sync_drill.proofs.Parted.{IsParted, parted}
 use Rattle.sync_drill.proofs.SearchTaken.{after-append, ended_taken, whole_taken}
@@ -35,7 +34,7 @@ module _ (d : DirectoryState) (accepted : WereAccepted d.suffix d.history d.writ
   -- one search that ended with busy
   module _ (opening : SearchOpening) (end : ClosedSearch) (is : EndsBusy consumer d opening end) where
     abbrev stream : List SyncMessage
-    stream = stream_in d opening
+    stream = stream_at_once d opening
 
     handed_is : handed_of end.over end.handed stream ≡ take is.before stream ++ busy_end ∷ []
     handed_is =
@@ -67,15 +66,15 @@ module _ (d : DirectoryState) (accepted : WereAccepted d.suffix d.history d.writ
 
   -- after these and all messages of one more, which is open, a copy that began with nothing has what is selected after all writes
   pub made_whole : (notes : List JournalNote) → AllEndBusy consumer d notes → (opening : SearchOpening) → IsOpening consumer opening → opening.accepted ≤ length d.writes
-      → (items : List (List ℕ)) → items ≡ map encoded (delivered d notes ++ map (λ m. (search_id, m)) (stream_in d opening)) → (copy : Copy) → IsMadeOf items copy
+      → (items : List (List ℕ)) → items ≡ map encoded (delivered d notes ++ map (λ m. (search_id, m)) (stream_at_once d opening)) → (copy : Copy) → IsMadeOf items copy
       → copy.held ≡ select (followed_by consumer) (entries_of d)
   made_whole notes ended opening asked before items offered copy made =
       ap (λ (c : Copy). c.held) (made.is ∙ ap (copy_after nothing) parts.is ∙ after-append parts.first parts.second nothing)
       ∙ whole_taken d accepted few opening asked.start asked.goes_on before (copy_after nothing parts.first)
       (all_ended notes ended nothing (record { none = refl; rises = refl }) parts.first parts.begins)
-      parts.second (read_of_each search_id refl (stream_in d opening) parts.second parts.ends)
+      parts.second (read_of_each search_id refl (stream_at_once d opening) parts.second parts.ends)
       ∙ ap (λ search. select search (entries_of d)) asked.spec
     where
-      parts : IsParted IsReadFrom (map encoded (delivered d notes)) (map encoded (map (λ m. (search_id, m)) (stream_in d opening))) made.messages
-      parts = parted IsReadFrom (map encoded (delivered d notes)) (map encoded (map (λ m. (search_id, m)) (stream_in d opening))) made.messages
-          (subst (λ list. AllZip IsReadFrom list made.messages) (offered ∙ map-append encoded (delivered d notes) (map (λ m. (search_id, m)) (stream_in d opening))) made.read)
+      parts : IsParted IsReadFrom (map encoded (delivered d notes)) (map encoded (map (λ m. (search_id, m)) (stream_at_once d opening))) made.messages
+      parts = parted IsReadFrom (map encoded (delivered d notes)) (map encoded (map (λ m. (search_id, m)) (stream_at_once d opening))) made.messages
+          (subst (λ list. AllZip IsReadFrom list made.messages) (offered ∙ map-append encoded (delivered d notes) (map (λ m. (search_id, m)) (stream_at_once d opening))) made.read)

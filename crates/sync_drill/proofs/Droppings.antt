@@ -17,7 +17,7 @@ dropped-goes search old new result replied =
 
     goes : (f : Option FollowedSearch) → new ≡ dropped_in place search f → HasGoneOn place new
     goes None is = subst (HasGoneOn place) (sym is) (stays place)
-    goes (Some f) is = subst (HasGoneOn place) (sym is) (ended-goes place search (end_of search f.handed f))
+    goes (Some f) is = subst (HasGoneOn place) (sym is) (ended-goes place search (end_of search f))
 
 -- all that it handed out was offered
 pub dropped-resting : (consumer search : ℕ) (old new : PortState) (items : List (List ℕ)) (result : Bool) → IsHanding consumer search old items
@@ -26,5 +26,5 @@ dropped-resting consumer search old new items result h replied =
     let p : PortState = replied.place in
     let now : IsHanding consumer search p items = handing-later consumer search old p items replied.later h in
     let f : FollowedSearch = followed_now consumer search p items now in
-    let state : new ≡ ended_in p search (end_of search now.handed f) = replied.replies.state ∙ ap (dropped_in p search) now.follows in
+    let state : new ≡ ended_in p search (end_of search f) = replied.replies.state ∙ ap (dropped_in p search) now.follows in
     subst (λ q. IsResting q items) (sym state) (resting-dropped consumer search p items now)

@@ -58,6 +58,7 @@ module _ {P H : Type 0} (home : P → H) (state : P → PortState) (plan : Drill
         ∙ done_is plan place;
   }
 
+  -- each port that begins, writes and ends is one that has finished
   pub each_finished : (place : ℕ) (ports after : List P) (writings : List (Writing P)) → EachAt (HasBegun home state plan many one) place ports
       → AllZip (WriterGoes home state) (writings_from plan place ports) writings → AllZip HasEnded writings after
       → EachAt (HasFinished home state plan many one) place after

@@ -1,7 +1,7 @@
 -- Ports as their journals go on: what stays, and what is known of the directory.
 use Rattle.std.proofs.Common.{◌≡◌, ◌≢◌, ◌⊎◌, ℕ, suc, ◌≤◌, [], ◌∷◌, ◌++◌, fold, inl, inr, refl, sym, ap, ◌∙◌, subst, arith, append_assoc, append-nil}
 use Rattle.std.specs.List.{All}
-use Rattle.std.proofs.lemmas.List.Elements.{All-cons, All-append, All-weaker}
+use Rattle.std.proofs.lemmas.List.Elements.{All-cons, All-nil, All-append, All-weaker}
 use Rattle.std.proofs.lemmas.List.Sums.{fold-append}
 use Rattle.directory_writes.specs.Directory.{fresh_directory, with_write}
 use Rattle.sync_provider.specs.Ports.{Journal, PortState, write_in, writes_in, noted, noted_all, IsLater}
@@ -11,19 +11,18 @@ use Rattle.drill_plan.specs.Ending.{history, server}
 use Rattle.drill_plan.specs.Names.{suffix}
 use Rattle.sync_drill.specs.Going.{HasGoneOn, IsDrillPort}
 
+-- the writes of two journals in a row
 pub writes-append : (one other : Journal) → writes_in (one ++ other) ≡ writes_in one ++ writes_in other
 writes-append [] other = refl
 writes-append (e ∷ one) other = ap (λ rest. write_in e.0 ++ rest) (writes-append one other) ∙ sym (append_assoc (write_in e.0) (writes_in one) (writes_in other))
 
 -- whose entry one is that came in at a port: its own, or that of another port
-abbrev IsOfAPort : (number ports : ℕ) → JournalNote × ℕ → Type 0
+abbrev pub IsOfAPort : (number ports : ℕ) → JournalNote × ℕ → Type 0
 IsOfAPort number ports e = (e.1 ≡ number) ⊎ ((1 ≤ e.1) × (e.1 ≤ ports))
-
-no-entries : (P : JournalNote × ℕ → Type 0) → All P []
-no-entries P k d low = absurd (omega (arith, low))
 
 -- ---- a port that goes on
 
+-- a port to which nothing happens
 pub stays : (p : PortState) → HasGoneOn p p
 stays p = record {
   number = refl;
@@ -32,9 +31,10 @@ stays p = record {
   entries = [];
   journal = sym (append-nil p.journal);
   directory = refl;
-  by = no-entries (IsOfAPort p.number p.ports);
+  by = All-nil (IsOfAPort p.number p.ports);
 }
 
+-- two steps in a row
 pub goes-twice : (old mid new : PortState) → HasGoneOn old mid → HasGoneOn mid new → HasGoneOn old new
 goes-twice old mid new first second = record {
   number = second.number ∙ first.number;
@@ -63,7 +63,7 @@ noted-goes p (Wrote write) by whose = record {
   entries = (Wrote write, by) ∷ [];
   journal = refl;
   directory = refl;
-  by = All-cons (IsOfAPort p.number p.ports) (Wrote write, by) [] whose (no-entries (IsOfAPort p.number p.ports));
+  by = All-cons (IsOfAPort p.number p.ports) (Wrote write, by) [] whose (All-nil (IsOfAPort p.number p.ports));
 }
 noted-goes p (Opened opening) by whose = record {
   number = refl;
@@ -72,7 +72,7 @@ noted-goes p (Opened opening) by whose = record {
   entries = (Opened opening, by) ∷ [];
   journal = refl;
   directory = refl;
-  by = All-cons (IsOfAPort p.number p.ports) (Opened opening, by) [] whose (no-entries (IsOfAPort p.number p.ports));
+  by = All-cons (IsOfAPort p.number p.ports) (Opened opening, by) [] whose (All-nil (IsOfAPort p.number p.ports));
 }
 noted-goes p (Closed end) by whose = record {
   number = refl;
@@ -81,7 +81,7 @@ noted-goes p (Closed end) by whose = record {
   entries = (Closed end, by) ∷ [];
   journal = refl;
   directory = refl;
-  by = All-cons (IsOfAPort p.number p.ports) (Closed end, by) [] whose (no-entries (IsOfAPort p.number p.ports));
+  by = All-cons (IsOfAPort p.number p.ports) (Closed end, by) [] whose (All-nil (IsOfAPort p.number p.ports));
 }
 
 -- an entry of its own
@@ -112,6 +112,7 @@ within-ports : (number ports : ℕ) (e : JournalNote × ℕ) → (1 ≤ number) 
 within-ports number ports e own (inl is) = subst (λ n. (1 ≤ n) × (n ≤ ports)) (sym is) own
 within-ports number ports e own (inr is) = is
 
+-- a port of a drill is one still
 pub port-goes : (number ports : ℕ) (old new : PortState) → IsDrillPort number ports old → HasGoneOn old new → IsDrillPort number ports new
 port-goes number ports old new drill gone = record {
   its_number = gone.number ∙ drill.its_number;

@@ -1,20 +1,24 @@
 -- A consumer's port: what was offered for it stays what its searches handed out, as entries of
 -- other ports come in, as a message is handed out, and as a search is opened and ended.
-use Rattle.std.proofs.Common.{◌≡◌, ◌≢◌, ℕ, zero, suc, ◌+◌, ◌-◌, ◌≤◌, ◌==◌, nat_eq, Bool, true, false, cond, ◌&&◌, ◌||◌, List, [], ◌∷◌, ◌++◌, map, take, drop, length, Option, Some, None, option_map, refl, sym, ap, ◌∙◌, subst, arith, append_assoc, append-nil}
+use Rattle.std.proofs.Common.{◌≡◌, ◌≢◌, ℕ, zero, suc, ◌+◌, ◌-◌, ◌≤◌, ◌==◌, nat_eq, Bool, true, false, cond, ◌||◌, List, [], ◌∷◌, ◌++◌, map, take, drop, length, Option, Some, None, option_map, refl, sym, ap, ◌∙◌, subst, arith, append_assoc, append-nil}
 use Rattle.std.specs.List.{All}
 use Rattle.std.proofs.lemmas.Bool.{false≢true, eq-eqb}
 use Rattle.std.proofs.lemmas.List.{map-append}
 use Rattle.sync_model.specs.Message.{SyncMessage}
-use Rattle.sync_provider.specs.Law.{is_too_much}
-use Rattle.sync_provider.specs.Opened.{SearchOpening, bare_search}
-use Rattle.sync_provider.specs.Ports.{Journal, PortState, FollowedSearch, followed_after, noted, noted_all, opened_in, handed_in, end_of, ended_in, stream_in, IsLater}
+use Rattle.sync_model.proofs.Groups.{heads}
+use Rattle.sync_slices.specs.Slices.{is_too_much}
+use Rattle.directory_writes.specs.Directory.{with_write}
+use Rattle.sync_provider.specs.Opened.{SearchOpening, sliced_of}
+use Rattle.sync_provider.specs.Ports.{Journal, PortState, FollowedSearch, followed_after, followed_on, noted, noted_all, opened_in, handed_in, end_of, ended_in, IsLater}
+use Rattle.sync_provider.specs.Queueing.{limits_of}
 use Rattle.sync_provider.specs.Search.{busy_end}
 use Rattle.sync_provider.specs.declared.journal_note.ClosedSearch.{ClosedSearch}
 use Rattle.sync_provider.specs.declared.journal_note.JournalNote.{JournalNote}
 use Rattle.sync_provider.specs.declared.journal_note.JournalNote.TheVariants.{Wrote, Opened, Closed}
 use Rattle.sync_drill.specs.Journals.{notes_of}
-use Rattle.sync_drill.specs.Delivered.{handed_by, handed_of, delivered, encoded, search_id}
+use Rattle.sync_drill.specs.Delivered.{stream_at_once, handed_by, handed_of, delivered, encoded, search_id}
 use Rattle.sync_drill.specs.Handing.{AreEnded, AllEndBusy, EndsBusy, IsHanding, IsOpening, IsResting, MayOpen, count_of}
+use Rattle.sync_drill.proofs.AtOnce.{marks_stay}
 use Rattle.sync_drill.proofs.Notes.{is_another, is_itself, noted-number, others_notes, own_notes}
 use Rattle.sync_drill.proofs.Streams.{busy-append, delivered-append, delivered_same, ended-append, one_write, still_busy, still_ended, still_within, taken_same}
 
@@ -25,7 +29,10 @@ handing-noted : (consumer search : ℕ) (p : PortState) (items : List (List ℕ)
 handing-noted consumer search p items (Wrote write) by other h = record {
   opening = h.opening;
   handed = h.handed;
-  over = h.over || (h.opening.persists && is_too_much p.queue_limit p.directory (bare_search h.opening) write h.handed);
+  over =
+      h.over
+      || is_too_much (limits_of p.queue_limit) (sliced_of (with_write p.directory write) h.opening) (h.opening.accepted ∷ []) h.handed
+      (length p.directory.writes);
   follows = ap (option_map (followed_after p.queue_limit p.directory write)) h.follows;
   alone = λ n far. ap (option_map (followed_after p.queue_limit p.directory write)) (h.alone n far);
   its_number = h.its_number;
@@ -180,12 +187,9 @@ handing-opened consumer p items opening asked all may = record {
 }
   where
     fresh : FollowedSearch
-    fresh = record { opened = opening; handed = 0; over = false }
+    fresh = record { opened = opening; handed = 0; marks = opening.accepted ∷ []; over = false }
 
 -- ---- a message is handed out
-
-same_head : {X : Type 0} (x y : X) (xs ys : List X) → x ∷ xs ≡ y ∷ ys → x ≡ y
-same_head x y xs ys e = cc
 
 nil-cons : {X : Type 0} (x : X) (xs : List X) → [] ≡ x ∷ xs → ⊥
 nil-cons x xs e = cc
@@ -194,7 +198,7 @@ nil-cons x xs e = cc
 pub take_one : (n : ℕ) (stream : List SyncMessage) (message : SyncMessage) (rest : List SyncMessage) → drop n stream ≡ message ∷ rest
     → take (suc n) stream ≡ take n stream ++ message ∷ []
 take_one zero [] message rest is = absurd (nil-cons message rest is)
-take_one zero (first ∷ stream) message rest is = ap (λ m. m ∷ []) (same_head first message stream rest is)
+take_one zero (first ∷ stream) message rest is = ap (λ m. m ∷ []) (heads first message stream rest is)
 take_one (suc n) [] message rest is = absurd (nil-cons message rest is)
 take_one (suc n) (first ∷ stream) message rest is = ap (λ messages. first ∷ messages) (take_one n stream message rest is)
 
@@ -220,22 +224,23 @@ dropped-handed false handed stream = refl
 module _ (consumer search : ℕ) (p : PortState) (items : List (List ℕ)) (h : IsHanding consumer search p items) where
   -- the search that it follows
   abbrev pub followed_now : FollowedSearch
-  followed_now = record { opened = h.opening; handed = h.handed; over = h.over }
+  followed_now = record { opened = h.opening; handed = h.handed; marks = h.opening.accepted ∷ []; over = h.over }
 
   abbrev stream : List SyncMessage
-  stream = stream_in p.directory h.opening
+  stream = stream_at_once p.directory h.opening
 
   abbrev numbered : List SyncMessage → List (ℕ × SyncMessage)
   numbered = map (λ message. (search_id, message))
 
   -- one message more is handed out
-  pub handing-handed : (message : SyncMessage) (rest : List SyncMessage) → drop h.handed (stream_in p.directory h.opening) ≡ message ∷ rest
+  pub handing-handed : (message : SyncMessage) (rest : List SyncMessage) → drop h.handed (stream_at_once p.directory h.opening) ≡ message ∷ rest
       → IsHanding consumer search (handed_in p search followed_now) (items ++ encoded (search_id, message) ∷ [])
   handing-handed message rest is = record {
     opening = h.opening;
     handed = h.handed + 1;
     over = h.over;
-    follows = ap (λ b. cond b (Some one_more) (p.followed search)) (is_itself search);
+    follows = ap (λ b. cond b (Some one_more) (p.followed search)) (is_itself search)
+        ∙ ap (λ marks. Some (at_marks marks)) (marks_stay p.directory followed_now refl);
     alone = λ n far. ap (λ b. cond b (Some one_more) (p.followed n)) (is_another n search far) ∙ h.alone n far;
     its_number = h.its_number;
     asked = h.asked;
@@ -255,8 +260,11 @@ module _ (consumer search : ℕ) (p : PortState) (items : List (List ℕ)) (h : 
         ∙ (let same : suc h.handed ≡ h.handed + 1 = omega arith in ap (λ n. take n stream) same))));
   }
     where
+      at_marks : List ℕ → FollowedSearch
+      at_marks marks = record { opened = h.opening; handed = h.handed + 1; marks = marks; over = h.over }
+
       one_more : FollowedSearch
-      one_more = record { opened = h.opening; handed = h.handed + 1; over = h.over }
+      one_more = followed_on p.directory followed_now
 
   -- ---- the search is ended
 
@@ -268,7 +276,7 @@ module _ (consumer search : ℕ) (p : PortState) (items : List (List ℕ)) (h : 
 
   -- after all that it handed out until then, and the end itself where that was sent
   pub resting-ended : (end : ClosedSearch) (offered : List (List ℕ)) → end.number ≡ search
-      → count_of end.over end.handed ≤ length (stream_in p.directory h.opening)
+      → count_of end.over end.handed ≤ length (stream_at_once p.directory h.opening)
       → offered ≡ map encoded (delivered p.directory h.ended ++ handed_by p.directory h.opening end)
       → IsResting (ended_in p search end) offered
   resting-ended end offered same within is = record {
@@ -297,13 +305,13 @@ module _ (consumer search : ℕ) (p : PortState) (items : List (List ℕ)) (h : 
   }
 
   -- it is dropped: what it handed out was offered
-  pub resting-dropped : IsResting (ended_in p search (end_of search h.handed followed_now)) items
+  pub resting-dropped : IsResting (ended_in p search (end_of search followed_now)) items
   resting-dropped =
       resting-ended end items refl (subst (λ n. n ≤ length stream) (sym (dropped-count h.over h.handed)) h.within)
       (h.offered_is ∙ ap (λ messages. map encoded (delivered p.directory h.ended ++ messages)) (sym handed_now))
     where
       end : ClosedSearch
-      end = end_of search h.handed followed_now
+      end = end_of search followed_now
 
       handed_now : handed_by p.directory h.opening end ≡ numbered (take h.handed stream)
       handed_now =

@@ -2,6 +2,7 @@
 use Rattle.std.proofs.Common.{◌≡◌, ◌≤◌, ◌<◌, ◌+◌, ℕ, zero, suc, List, [], ◌∷◌, ◌++◌, length, fold, refl, sym, ap, ◌∙◌, subst, arith, append_assoc, append-nil}
 use Rattle.std.specs.List.{All, AllZip}
 use Rattle.std.proofs.lemmas.List.Elements.{All-weaker}
+use Rattle.std.proofs.lemmas.Slice.Zip.{AllZip-long}
 use Rattle.entry_tree.specs.declared.op.Write.{Write}
 use Rattle.directory_writes.specs.Directory.{AreAccepted, DirectoryState, fresh_directory, with_write}
 use Rattle.sync_provider.specs.Ports.{HasMet, HasSeenAllOf, Journal, PortState, writes_in}
@@ -14,7 +15,7 @@ use Rattle.sync_drill.specs.Going.{HasMetThis, IsDrillPort, OthersCameIn, WasSee
 use Rattle.sync_drill.specs.Journals.{AreWrites, OpenedNone, notes_of, operations_in, own_operations}
 use Rattle.sync_drill.specs.Writers.{HasFinished}
 use Rattle.sync_drill.proofs.Going.{port-goes}
-use Rattle.sync_drill.proofs.Lists.{each-all, each-weaker, each-zip, each_holds, zip-length}
+use Rattle.sync_drill.proofs.Lists.{each-all, each-weaker, each-zip, each_holds}
 use Rattle.sync_drill.proofs.Meetings.{begins-on, came-twice}
 use Rattle.sync_drill.proofs.Notes.{between, met-own, noted_all-number}
 use Rattle.sync_drill.proofs.Schedules.{are_of, numbered, same_operations, same_writes, schedule_of}
@@ -169,7 +170,7 @@ module _ {P H : Type 0} (home : P → H) (state : P → PortState) (plan : Drill
     )
 
     as_many : length (last ∷ new) ≡ plan.writers
-    as_many = ap suc (zip-length (HasShown home state seen) old new (all_shown home state met seen old mid new further was_seen has_met)) ∙ count
+    as_many = ap suc (AllZip-long (HasShown home state seen) old new (all_shown home state met seen old mid new further was_seen has_met)) ∙ count
 
     each_done : (writer : ℕ) → writer < plan.writers → operations_by writer (numbered seen.journal) ≡ done_by plan writer
     each_done writer low =

@@ -1,18 +1,14 @@
 -- Facts of lists, item by item.
-use Rattle.std.proofs.Common.{◌≡◌, ℕ, zero, suc, ◌+◌, ◌<◌, List, [], ◌∷◌, ◌++◌, length, refl, sym, ap, ◌∙◌, subst, arith, append_assoc, append-nil}
-use Rattle.std.specs.Prelude.{Result, Ok, Err, IfOk, remove, slice_index_or}
+use Rattle.std.proofs.Common.{◌≡◌, ℕ, zero, suc, ◌+◌, ◌<◌, List, [], ◌∷◌, ◌++◌, length, sym, ap, ◌∙◌, subst, arith, append_assoc, append-nil}
+use Rattle.std.specs.Prelude.{remove, slice_index_or}
 use Rattle.std.specs.List.{All, AllZip}
 use Rattle.std.proofs.lemmas.List.Elements.{All-cons, All-nil}
+use Rattle.std.proofs.lemmas.List.{nil_from_length}
 use Rattle.sync_drill.specs.Drilled.{EachAt}
 
+-- a list with an item is not empty
 pub nil-cons : {X : Type 0} (x : X) (xs : List X) → x ∷ xs ≡ [] → ⊥
 nil-cons x xs e = cc
-
-pub same_head : {X : Type 0} (x y : X) (xs ys : List X) → x ∷ xs ≡ y ∷ ys → x ≡ y
-same_head x y xs ys e = cc
-
-pub same_tail : {X : Type 0} (x y : X) (xs ys : List X) → x ∷ xs ≡ y ∷ ys → xs ≡ ys
-same_tail x y xs ys e = cc
 
 -- what holds of each holds of one of them
 pub all_at : {X : Type 0} (P : X → Type 0) (xs ys : List X) (x : X) → All P (xs ++ x ∷ ys) → P x
@@ -21,31 +17,21 @@ all_at P (y ∷ xs) ys x all = all_at P xs ys x (λ k d low. all (suc k) d (omeg
 
 -- ---- two lists
 
-pub zip-push : {X Y : Type 0} (R : X → Y → Type 0) (xs : List X) (ys : List Y) (x : X) (y : Y) → AllZip R xs ys → R x y
-    → AllZip R (xs ++ x ∷ []) (ys ++ y ∷ [])
-zip-push R [] [] x y all one = (one, tt)
-zip-push R [] (first ∷ ys) x y all one = absurd all
-zip-push R (first ∷ xs) [] x y all one = absurd all
-zip-push R (first ∷ xs) (other ∷ ys) x y all one = (all.0, zip-push R xs ys x y all.1 one)
-
+-- what follows of each two holds of each two
 pub zip-weaker : {X Y : Type 0} (R S : X → Y → Type 0) (xs : List X) (ys : List Y) → ((x : X) (y : Y) → R x y → S x y) → AllZip R xs ys → AllZip S xs ys
 zip-weaker R S [] [] step all = tt
 zip-weaker R S [] (y ∷ ys) step all = absurd all
 zip-weaker R S (x ∷ xs) [] step all = absurd all
 zip-weaker R S (x ∷ xs) (y ∷ ys) step all = (step x y all.0, zip-weaker R S xs ys step all.1)
 
-pub zip-length : {X Y : Type 0} (R : X → Y → Type 0) (xs : List X) (ys : List Y) → AllZip R xs ys → length ys ≡ length xs
-zip-length R [] [] all = omega arith
-zip-length R [] (y ∷ ys) all = absurd all
-zip-length R (x ∷ xs) [] all = absurd all
-zip-length R (x ∷ xs) (y ∷ ys) all = ap suc (zip-length R xs ys all.1)
-
 -- ---- places
 
+-- what follows of each, whatever its place
 pub each-all : {X : Type 0} (P : ℕ → X → Type 0) (Q : X → Type 0) (place : ℕ) (xs : List X) → ((n : ℕ) (x : X) → P n x → Q x) → EachAt P place xs → All Q xs
 each-all P Q place [] step each = All-nil Q
 each-all P Q place (x ∷ xs) step each = All-cons Q x xs (step place x each.0) (each-all P Q (suc place) xs step each.1)
 
+-- what follows of each at its place
 pub each-weaker : {X : Type 0} (P Q : ℕ → X → Type 0) (place : ℕ) (xs : List X) → ((n : ℕ) (x : X) → P n x → Q n x) → EachAt P place xs → EachAt Q place xs
 each-weaker P Q place [] step each = tt
 each-weaker P Q place (x ∷ xs) step each = (step place x each.0, each-weaker P Q (suc place) xs step each.1)
@@ -69,13 +55,9 @@ each_holds Q place (x ∷ xs) each (suc k) low =
 
 -- ---- what an iterator has left
 
-pub none_left : {X : Type 0} (xs : List X) → length xs ≡ 0 → xs ≡ []
-none_left [] none = refl
-none_left (x ∷ xs) none = absurd (omega (arith, none))
-
 -- all were given
 pub all_given : {X : Type 0} (all given left : List X) → all ≡ given ++ left → length left ≡ 0 → given ≡ all
-all_given all given left is none = sym (is ∙ ap (λ more. given ++ more) (none_left left none) ∙ append-nil given)
+all_given all given left is none = sym (is ∙ ap (λ more. given ++ more) (nil_from_length left none) ∙ append-nil given)
 
 -- one more was given
 pub one_given : {X : Type 0} (all given left more : List X) (x : X) → all ≡ given ++ left → left ≡ x ∷ more → all ≡ (given ++ x ∷ []) ++ more
@@ -93,16 +75,3 @@ is_given P all given left more x is first each =
 pub first_and_others : {X : Type 0} (xs others : List X) (first : X) → 0 < length xs → first ≡ slice_index_or xs 0 first → others ≡ remove xs 0 → xs ≡ first ∷ others
 first_and_others [] others first some is are = absurd (omega (arith, some))
 first_and_others (x ∷ xs) others first some is are = ap (λ y. y ∷ xs) (sym is) ∙ ap (λ ys. first ∷ ys) (sym are)
-
--- ---- results
-
--- what follows of a value
-pub ok_weaker : {T E : Type 0} (result : Result T E) (A B : T → Type 0) → ((value : T) → A value → B value) → IfOk result A → IfOk result B
-ok_weaker (Ok value) A B step one = step value one
-ok_weaker (Err fault) A B step one = tt
-
--- what follows of a value from two facts of it
-pub ok_both : {T E : Type 0} (result : Result T E) (A B C : T → Type 0) → ((value : T) → A value → B value → C value)
-    → IfOk result A → IfOk result B → IfOk result C
-ok_both (Ok value) A B C step one other = step value one other
-ok_both (Err fault) A B C step one other = tt

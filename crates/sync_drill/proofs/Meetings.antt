@@ -1,28 +1,33 @@
 -- Ports that meet: what each has seen of the others.
 use Rattle.std.proofs.Common.{◌≡◌, List, [], ◌∷◌, ◌++◌, refl, ap, ◌∙◌, subst, append_assoc}
 use Rattle.std.specs.List.{AllZip}
+use Rattle.std.proofs.lemmas.Slice.Zip.{all_zipped_more}
 use Rattle.sync_provider.specs.Ports.{HasMet, HasSeenAllOf, IsLater, PortState}
 use Rattle.sync_drill.specs.Going.{HasGoneOn, HasMetThis, OthersCameIn, WasSeen}
 use Rattle.sync_drill.proofs.Going.{goes-twice, later-goes, stays}
-use Rattle.sync_drill.proofs.Lists.{zip-push, zip-weaker}
+use Rattle.sync_drill.proofs.Lists.{zip-weaker}
 use Rattle.sync_drill.proofs.Notes.{later-own}
 
 -- ---- entries of others come in
 
+-- no entry came in
 pub came-none : (p : PortState) → OthersCameIn p p
 came-none p = record { goes_on = stays p; own = refl }
 
+-- entries came in twice
 pub came-twice : (old mid new : PortState) → OthersCameIn old mid → OthersCameIn mid new → OthersCameIn old new
 came-twice old mid new first second = record {
   goes_on = goes-twice old mid new first.goes_on second.goes_on;
   own = second.own ∙ first.own;
 }
 
+-- entries of others alone came in
 pub later-came : (old new : PortState) → IsLater old new → OthersCameIn old new
 later-came old new later = record { goes_on = later-goes old new later; own = later-own old new later }
 
 -- ---- what was seen
 
+-- a port that has seen all of another one has seen it still after it goes on
 pub begins-on : (other old new : PortState) → HasSeenAllOf old other → HasGoneOn old new → HasSeenAllOf new other
 begins-on other old new begins goes = record {
   more = begins.more ++ goes.entries;
@@ -43,7 +48,7 @@ module _ {P H : Type 0} (home : P → H) (state : P → PortState) where
       → HasMet (state old) (state beside) (state new) → home after ≡ home beside → state after ≡ state beside
       → AllZip (WasSeen home state (state new)) (xs ++ beside ∷ []) (ys ++ after ∷ [])
   seen-more old beside after new xs ys all met same_home same_state =
-      zip-push (WasSeen home state (state new)) xs ys beside after
+      all_zipped_more (WasSeen home state (state new)) xs ys beside after
       (seen-on (state old) (state new) xs ys (later-goes (state old) (state new) met.later) all)
       (record {
         same = record { its_home = same_home; its_state = same_state };

@@ -1,12 +1,14 @@
 -- The entries of one port in a journal, where journals go on.
-use Rattle.std.proofs.Common.{◌≡◌, ◌≢◌, ℕ, zero, suc, ◌==◌, true, false, if◌then◌else◌, List, [], ◌∷◌, ◌++◌, length, refl, sym, ap, ◌∙◌, arith, append_assoc, append-nil, length-append}
+use Rattle.std.proofs.Common.{◌≡◌, ◌≢◌, ℕ, zero, suc, ◌==◌, true, false, if◌then◌else◌, [], ◌∷◌, ◌++◌, length, refl, sym, ap, ◌∙◌, arith, append_assoc, append-nil, length-append}
 use Rattle.std.specs.List.{All}
 use Rattle.std.proofs.lemmas.Bool.{eq-eqb, ne_eqb}
+use Rattle.std.proofs.lemmas.List.{nil_from_length}
 use Rattle.sync_provider.specs.Ports.{Journal, PortState, noted, noted_all, IsLater, HasMet}
 use Rattle.sync_provider.specs.declared.journal_note.JournalNote.{JournalNote}
 use Rattle.sync_provider.specs.declared.journal_note.JournalNote.TheVariants.{Wrote, Opened, Closed}
 use Rattle.sync_drill.specs.Journals.{notes_of}
 
+-- the notes of a number in two journals in a row
 pub notes-append : (number : ℕ) (xs ys : Journal) → notes_of number (xs ++ ys) ≡ notes_of number xs ++ notes_of number ys
 notes-append number [] ys = refl
 notes-append number (e ∷ xs) ys =
@@ -16,9 +18,11 @@ notes-append number (e ∷ xs) ys =
     ≡ (if b then e.0 ∷ notes_of number xs else notes_of number xs) ++ notes_of number ys)
     [ true ↦ ap (λ notes. e.0 ∷ notes) rest | false ↦ rest ]
 
+-- a number is found equal to itself
 pub is_itself : (n : ℕ) → (n == n) ≡ true
 is_itself n = eq-eqb n n refl
 
+-- different numbers are found different
 pub is_another : (n m : ℕ) → n ≢ m → (n == m) ≡ false
 is_another n m far = ne_eqb n m far
 
@@ -29,10 +33,6 @@ notes-others number (e ∷ journal) others =
     ap (λ b. if b then e.0 ∷ notes_of number journal else notes_of number journal) (is_another e.1 number (others zero e (omega arith)))
     ∙ notes-others number journal (λ k d low. others (suc k) d (omega (arith, low)))
 
-none : {X : Type 0} (xs : List X) → length xs ≡ 0 → xs ≡ []
-none [] count = refl
-none (x ∷ xs) count = absurd (omega (arith, count))
-
 -- A journal between two that have the same entries of a port has these entries of it.
 pub between : (number : ℕ) (low more later : Journal) → notes_of number ((low ++ more) ++ later) ≡ notes_of number low
     → notes_of number (low ++ more) ≡ notes_of number low
@@ -41,7 +41,7 @@ between number low more later same =
     let second : notes_of number ((low ++ more) ++ later) ≡ notes_of number (low ++ more) ++ notes_of number later =
     notes-append number (low ++ more) later in
     let no_more : notes_of number more ≡ [] =
-    none (notes_of number more)
+    nil_from_length (notes_of number more)
     (omega (
       arith,
       ap length same,
@@ -54,16 +54,19 @@ between number low more later same =
 
 -- ---- ports
 
+-- a port that notes an entry has it last in its journal
 pub noted-journal : (p : PortState) (note : JournalNote) (by : ℕ) → (noted p note by).journal ≡ p.journal ++ (note, by) ∷ []
 noted-journal p (Wrote write) by = refl
 noted-journal p (Opened opening) by = refl
 noted-journal p (Closed end) by = refl
 
+-- it keeps its number
 pub noted-number : (p : PortState) (note : JournalNote) (by : ℕ) → (noted p note by).number ≡ p.number
 noted-number p (Wrote write) by = refl
 noted-number p (Opened opening) by = refl
 noted-number p (Closed end) by = refl
 
+-- entries that are noted come after those of before, in their order
 pub noted_all-journal : (p : PortState) (entries : Journal) → (noted_all p entries).journal ≡ p.journal ++ entries
 noted_all-journal p [] = sym (append-nil p.journal)
 noted_all-journal p (e ∷ entries) =
@@ -71,6 +74,7 @@ noted_all-journal p (e ∷ entries) =
     ∙ ap (λ journal. journal ++ entries) (noted-journal p e.0 e.1)
     ∙ append_assoc p.journal (e ∷ []) entries
 
+-- the port keeps its number
 pub noted_all-number : (p : PortState) (entries : Journal) → (noted_all p entries).number ≡ p.number
 noted_all-number p [] = refl
 noted_all-number p (e ∷ entries) = noted_all-number (noted p e.0 e.1) entries ∙ noted-number p e.0 e.1

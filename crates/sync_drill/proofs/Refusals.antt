@@ -176,6 +176,7 @@ judged_refusal d op now code = by_room (has_room d.writes op)
     by_room true is = by_csn (csn_of_next_write d now) is
     by_room false is = same_code ADMIN_LIMIT_EXCEEDED code (omega arith) is
 
+-- no write is refused with success
 pub refused_code : (kind : Kind) (d : DirectoryState) (op : Op) (now code : ℕ) → judged_by kind d op now ≡ Err code → 1 ≤ code
 refused_code Root d op now code is = judged_refusal d op now code is
 refused_code Replica d op now code is = same_code UNWILLING_TO_PERFORM code (omega arith) is

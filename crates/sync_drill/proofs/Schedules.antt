@@ -10,6 +10,7 @@ use Rattle.entry_tree.specs.Codes.{code_of, naming_code, limit_code}
 use Rattle.entry_tree.specs.State.{has_name}
 use Rattle.entry_tree.specs.declared.op.Op.{Op}
 use Rattle.entry_tree.specs.declared.op.Write.{Write}
+use Rattle.sync_model.proofs.Groups.{heads, tails}
 use Rattle.directory_writes.specs.Directory.{AreAccepted}
 use Rattle.sync_provider.specs.Ports.{Journal, write_in, writes_in}
 use Rattle.sync_provider.specs.declared.journal_note.JournalNote.{JournalNote}
@@ -21,7 +22,7 @@ use Rattle.drill_plan.specs.Operations.{add_suffix, add_unit, operations, first_
 use Rattle.drill_plan.specs.Schedule.{NumberedWrites, writes_of, operations_by}
 use Rattle.sync_drill.specs.Journals.{notes_of, operations_in}
 use Rattle.sync_drill.specs.Drilled.{done_by}
-use Rattle.sync_drill.proofs.Lists.{nil-cons, same_head, same_tail}
+use Rattle.sync_drill.proofs.Lists.{nil-cons}
 use Rattle.sync_drill.proofs.NoMore.{fewer}
 use Rattle.sync_drill.proofs.Notes.{is_another, is_itself}
 
@@ -36,6 +37,7 @@ abbrev pub numbered : Journal → NumberedWrites
 numbered [] = []
 numbered (e ∷ journal) = tagged e.1 e.0 ++ numbered journal
 
+-- no write is lost by the numbers of the writers
 pub same_writes : (journal : Journal) → writes_of (numbered journal) ≡ writes_in journal
 same_writes [] = refl
 same_writes (e ∷ journal) = with_note (same_writes journal) e.0
@@ -54,6 +56,7 @@ same_test (suc n) writer some = by (n == writer) refl
     by true is = is ∙ sym (eq-eqb (suc n) (suc writer) (ap suc (eqb-true n writer is)))
     by false is = is ∙ sym (ne_eqb (suc n) (suc writer) (λ same. eqb-false n writer is (omega (arith, same))))
 
+-- the operations of a writer are those of the port with the number above its own
 pub same_operations : (writer : ℕ) (journal : Journal) → All (λ e. 1 ≤ e.1) journal
     → operations_by writer (numbered journal) ≡ operations_in (notes_of (suc writer) journal)
 same_operations writer [] by = refl
@@ -126,6 +129,7 @@ unit_refused writer =
     (or_right (not (is_at_or_below (unit_name writer false) suffix)) true refl)
 
 module _ (plan : DrillPlan) (writes : List Write) (accepted : AreAccepted suffix history writes) where
+  -- accepted writes are a schedule where each writer has its own among them, in order
   pub schedule_of : (ws : NumberedWrites) → writes ≡ writes_of ws → AreOf plan.writers ws → 1 ≤ plan.writers
       → ((writer : ℕ) → writer < plan.writers → operations_by writer ws ≡ done_by plan writer) → IsSchedule plan writes
   schedule_of [] is of some each = absurd (nil-cons add_suffix (writer_operations plan zero) (sym (each zero (omega (arith, some)))))
@@ -147,7 +151,7 @@ module _ (plan : DrillPlan) (writes : List Write) (accepted : AreAccepted suffix
         first = w.1;
         numbered = ws;
         is = is;
-        suffix_first = same_head w.1.op add_suffix (operations_by zero ws) (writer_operations plan zero) own;
+        suffix_first = heads w.1.op add_suffix (operations_by zero ws) (writer_operations plan zero) own;
         writers = of.1;
         each = others;
       }
@@ -156,13 +160,13 @@ module _ (plan : DrillPlan) (writes : List Write) (accepted : AreAccepted suffix
           own = sym (taken zero same) ∙ each zero (omega (arith, some))
 
           others : (writer : ℕ) → writer < plan.writers → operations_by writer ws ≡ writer_operations plan writer
-          others zero low = same_tail w.1.op add_suffix (operations_by zero ws) (writer_operations plan zero) own
+          others zero low = tails w.1.op add_suffix (operations_by zero ws) (writer_operations plan zero) own
           others (suc u) low = sym (passed zero (suc u) same (λ same_number. omega (arith, same_number))) ∙ each (suc u) low
       by_first (suc u) same = absurd (no_code (sym (unit_refused (suc u)) ∙ ap (code_of suffix []) (sym its_unit) ∙ unopposed))
         where
           its_unit : w.1.op ≡ add_unit (suc u)
           its_unit =
-              same_head w.1.op (add_unit (suc u)) (operations_by (suc u) ws) (operations plan.size (first_state plan.seed (suc u)))
+              heads w.1.op (add_unit (suc u)) (operations_by (suc u) ws) (operations plan.size (first_state plan.seed (suc u)))
               (sym (taken (suc u) same) ∙ each (suc u) (subst (λ n. n < plan.writers) same of.0))
 
           no_code : ◌≡◌ {A = Option ℕ} (Some NO_SUCH_OBJECT) None → ⊥

@@ -22,12 +22,10 @@ use Rattle.directory_writes.specs.Directory.{DirectoryState, entries_of, cookie_
 use Rattle.directory_writes.proofs.Writes.{state_now}
 use Rattle.sync_wire.specs.CanBeSent.{CanBeSent}
 use Rattle.sync_consumer.specs.Taking.{taken_of}
-use Rattle.sync_provider.specs.Law.{session_at}
-use Rattle.sync_provider.specs.Opened.{SearchOpening, bare_search}
-use Rattle.sync_provider.specs.Ports.{stream_in}
+use Rattle.sync_provider.specs.Opened.{SearchOpening}
 use Rattle.sync_provider.specs.Search.{busy_end, refresh_from}
 use Rattle.sync_provider.proofs.RefreshTaken.{refresh_some}
-use Rattle.sync_drill.specs.Delivered.{with_search, after_message, copy_after}
+use Rattle.sync_drill.specs.Delivered.{opened_operation, stream_at_once, with_search, after_message, copy_after}
 use Rattle.sync_drill.proofs.Parted.{IsParted, parted}
 use Rattle.sync_drill.proofs.StreamTaken.{IsReadOf, IsAtRest, Reaches, whole_of, begins, some_taken, all_held, busy_taken}
 
@@ -58,7 +56,7 @@ begun_after copy (x ∷ now) m messages none each = begun copy x (now ++ m ∷ [
 module _ (d : DirectoryState) (accepted : WereAccepted d.suffix d.history d.writes) (few : length d.writes ≤ most_identities)
     (opening : SearchOpening) (initial : opening.start ≡ InitialContent) (goes : opening.persists ≡ true) (before : opening.accepted ≤ length d.writes) where
   abbrev operation : SyncOperation
-  operation = session_at d (bare_search opening) d.writes
+  operation = opened_operation d opening
 
   abbrev count : ℕ
   count = length d.writes - opening.accepted
@@ -79,11 +77,11 @@ module _ (d : DirectoryState) (accepted : WereAccepted d.suffix d.history d.writ
   ascending number = ascends-state_of d.history d.writes number
 
   -- its messages
-  whole_is : stream_in d opening ≡ whole
+  whole_is : stream_at_once d opening ≡ whole
   whole_is = λ i. refresh_from operation (initial i) opening.accepted ++ cond operation.persists (later operation opening.accepted count) []
 
   -- from the first message on
-  reached : (copy : Copy) → IsAtRest copy → (now rest : List SyncMessage) → now ++ rest ≡ stream_in d opening → (messages : List Message) → AllZip IsReadOf now messages
+  reached : (copy : Copy) → IsAtRest copy → (now rest : List SyncMessage) → now ++ rest ≡ stream_at_once d opening → (messages : List Message) → AllZip IsReadOf now messages
       → Reaches operation ascending within sent texts opening.accepted count goes (copy_after (asked 1 true copy) messages) now rest
   reached copy rests now rest same messages each =
       some_taken operation ascending within sent texts opening.accepted count goes now rest [] messages (asked 1 true copy) each
@@ -91,7 +89,7 @@ module _ (d : DirectoryState) (accepted : WereAccepted d.suffix d.history d.writ
       (begins operation ascending within sent texts opening.accepted count goes copy rests.rises))
 
   -- after some of its messages and the end with busy a copy has no search
-  pub ended_taken : (copy : Copy) → IsAtRest copy → (now rest : List SyncMessage) → now ++ rest ≡ stream_in d opening → (messages : List Message)
+  pub ended_taken : (copy : Copy) → IsAtRest copy → (now rest : List SyncMessage) → now ++ rest ≡ stream_at_once d opening → (messages : List Message)
       → AllZip IsReadOf (now ++ busy_end ∷ []) messages → IsAtRest (copy_after copy messages)
   ended_taken copy rests now rest same messages each =
       subst IsAtRest (sym (begun_after copy now busy_end messages rests.none each ∙ ap (copy_after (asked 1 true copy)) parts.is ∙ after-append parts.first parts.second (asked 1 true copy)))
@@ -109,20 +107,20 @@ module _ (d : DirectoryState) (accepted : WereAccepted d.suffix d.history d.writ
       last (message ∷ other ∷ more) each = absurd each.1
 
   -- after all its messages a copy has what is selected after all writes
-  pub whole_taken : (copy : Copy) → IsAtRest copy → (messages : List Message) → AllZip IsReadOf (stream_in d opening) messages
+  pub whole_taken : (copy : Copy) → IsAtRest copy → (messages : List Message) → AllZip IsReadOf (stream_at_once d opening) messages
       → (copy_after copy messages).held ≡ select opening.spec (entries_of d)
   whole_taken copy rests messages each =
       let all : opening.accepted + (length d.writes - opening.accepted) ≡ length d.writes = omega (arith, before) in
       ap (λ (c : Copy). c.held) first
-      ∙ all_held operation ascending within sent texts opening.accepted count goes (copy_after (asked 1 true copy) messages) (stream_in d opening)
-      (reached copy rests (stream_in d opening) [] (append-nil (stream_in d opening)) messages each)
+      ∙ all_held operation ascending within sent texts opening.accepted count goes (copy_after (asked 1 true copy) messages) (stream_at_once d opening)
+      (reached copy rests (stream_at_once d opening) [] (append-nil (stream_at_once d opening)) messages each)
       ∙ ap (content_after operation) all
       ∙ ap (select opening.spec) (state_now d d.writes [] (append-nil d.writes))
     where
       some : HasNext (refresh_from operation InitialContent opening.accepted)
       some = refresh_some operation InitialContent opening.accepted
 
-      shown : stream_in d opening ≡ some.next ∷ (some.later ++ cond operation.persists (later operation opening.accepted count) [])
+      shown : stream_at_once d opening ≡ some.next ∷ (some.later ++ cond operation.persists (later operation opening.accepted count) [])
       shown = whole_is ∙ ap (λ ms. ms ++ cond operation.persists (later operation opening.accepted count) []) some.same
 
       first : copy_after copy messages ≡ copy_after (asked 1 true copy) messages

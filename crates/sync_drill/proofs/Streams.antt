@@ -6,14 +6,13 @@ use Rattle.sync_model.specs.Message.{SyncMessage}
 use Rattle.sync_model.specs.Stream.{SyncOperation, group, later}
 use Rattle.directory_writes.specs.Directory.{DirectoryState, with_write}
 use Rattle.sync_provider.specs.Opened.{SearchOpening}
-use Rattle.sync_provider.specs.Ports.{stream_in}
 use Rattle.sync_provider.specs.Search.{busy_end, session_of, refresh_from}
 use Rattle.sync_provider.specs.declared.journal_note.ClosedSearch.{ClosedSearch}
 use Rattle.sync_provider.specs.declared.journal_note.JournalNote.{JournalNote}
 use Rattle.sync_provider.specs.declared.journal_note.JournalNote.TheVariants.{Wrote, Opened, Closed}
-use Rattle.sync_provider.proofs.Growing.{stream_more}
+use Rattle.sync_provider.proofs.Decided.{stream_more}
 use Rattle.sync_provider.proofs.Refreshes.{refresh-longer, group-longer}
-use Rattle.sync_drill.specs.Delivered.{handed_of, handed_by, delivered}
+use Rattle.sync_drill.specs.Delivered.{stream_at_once, handed_of, handed_by, delivered}
 use Rattle.sync_drill.specs.Handing.{AreEnded, AllEndBusy, EndsBusy, count_of}
 
 -- ---- one search over one write more
@@ -38,7 +37,7 @@ module _ (d : DirectoryState) (w : Write) (o : SearchOpening) where
   more = cond o.persists (group new (length d.writes)) []
 
   -- a write adds messages at the end alone
-  pub stream_grows : o.accepted ≤ length d.writes → stream_in (with_write d w) o ≡ stream_in d o ++ more
+  pub stream_grows : o.accepted ≤ length d.writes → stream_at_once (with_write d w) o ≡ stream_at_once d o ++ more
   stream_grows low =
       let count : ℕ = length d.writes - o.accepted in
       let one_more : length (d.writes ++ w ∷ []) - o.accepted ≡ suc count = omega (arith, length-append d.writes (w ∷ []), low) in
@@ -51,23 +50,23 @@ module _ (d : DirectoryState) (w : Write) (o : SearchOpening) where
       ∙ (λ i. (first i ++ cond o.persists (second i) []) ++ cond o.persists (group new (here i)) [])
 
   -- n messages at its start are the same, and there are no fewer
-  pub taken_same : (count : ℕ) → o.accepted ≤ length d.writes → count ≤ length (stream_in d o)
-      → take count (stream_in (with_write d w) o) ≡ take count (stream_in d o)
-  taken_same count low within = ap (take count) (stream_grows low) ∙ take-append-le count (stream_in d o) more within
+  pub taken_same : (count : ℕ) → o.accepted ≤ length d.writes → count ≤ length (stream_at_once d o)
+      → take count (stream_at_once (with_write d w) o) ≡ take count (stream_at_once d o)
+  taken_same count low within = ap (take count) (stream_grows low) ∙ take-append-le count (stream_at_once d o) more within
 
   -- as many messages are there still
-  pub still_within : (count : ℕ) → o.accepted ≤ length d.writes → count ≤ length (stream_in d o)
-      → count ≤ length (stream_in (with_write d w) o)
+  pub still_within : (count : ℕ) → o.accepted ≤ length d.writes → count ≤ length (stream_at_once d o)
+      → count ≤ length (stream_at_once (with_write d w) o)
   still_within count low within =
-      omega (arith, within, ap length (stream_grows low), length-append (stream_in d o) more)
+      omega (arith, within, ap length (stream_grows low), length-append (stream_at_once d o) more)
 
   -- what it handed out until it was over
-  pub handed_same : (end : ClosedSearch) → o.accepted ≤ length d.writes → count_of end.over end.handed ≤ length (stream_in d o)
+  pub handed_same : (end : ClosedSearch) → o.accepted ≤ length d.writes → count_of end.over end.handed ≤ length (stream_at_once d o)
       → handed_by (with_write d w) o end ≡ handed_by d o end
   handed_same end low within = ap (map (λ message. (o.id, message))) (by end.over refl)
     where
       by : (over : Option ℕ) → end.over ≡ over
-          → handed_of over end.handed (stream_in (with_write d w) o) ≡ handed_of over end.handed (stream_in d o)
+          → handed_of over end.handed (stream_at_once (with_write d w) o) ≡ handed_of over end.handed (stream_at_once d o)
       by None is = taken_same end.handed low (omega (arith, within, ap (λ over. count_of over end.handed) is))
       by (Some before) is =
           ap (λ messages. messages ++ take (end.handed - before) (busy_end ∷ []))
@@ -123,7 +122,7 @@ delivered-append d (Wrote write ∷ notes) opening end ended = absurd ended
 
 -- one more that is over
 pub ended-append : (d : DirectoryState) (notes : List JournalNote) (opening : SearchOpening) (end : ClosedSearch) → AreEnded d notes
-    → opening.number ≡ end.number → opening.accepted ≤ length d.writes → count_of end.over end.handed ≤ length (stream_in d opening)
+    → opening.number ≡ end.number → opening.accepted ≤ length d.writes → count_of end.over end.handed ≤ length (stream_at_once d opening)
     → AreEnded d (notes ++ Opened opening ∷ Closed end ∷ [])
 ended-append d [] opening end ended same before within = (same, before, within, tt)
 ended-append d (Opened first ∷ Closed last ∷ notes) opening end ended same before within =

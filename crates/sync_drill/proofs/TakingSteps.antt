@@ -1,11 +1,12 @@
 -- The half of a consumer that takes messages, as it goes on.
-use Rattle.std.proofs.Common.{◌≡◌, ◌≢◌, ◌<◌, ℕ, Bool, true, false, not, List, [], ◌∷◌, ◌++◌, length, Option, Some, None, refl, sym, ap, ◌∙◌, subst, arith, append_assoc}
+use Rattle.std.proofs.Common.{◌≡◌, ◌≢◌, ◌<◌, ℕ, true, false, List, [], ◌∷◌, ◌++◌, length, Option, Some, None, refl, sym, ap, ◌∙◌, subst, arith, append_assoc}
 use mathlib.Core.List.{IsPrefix}
 use Rattle.std.specs.Prelude.{is_some}
 use Rattle.std.proofs.lemmas.Bool.{false≢true}
 use Rattle.link_rings.specs.Ends.{taken}
 use Rattle.ldap_messages.specs.declared.message.Message.{Message}
 use Rattle.sync_model.specs.Copy.{Copy, SyncSession, asked}
+use Rattle.sync_model.proofs.Groups.{heads, tails}
 use Rattle.sync_consumer.specs.Taking.{ConsumerState, Takes, taken_of}
 use Rattle.sync_consumer.specs.declared.consumer.Taken.{Taken}
 use Rattle.sync_consumer.specs.declared.consumer.Taken.TheVariants.{Staged, Stored, Copied, Over, Fault, NoMemory}
@@ -48,12 +49,6 @@ taken-as consumer other copy items more same_consumer same_items has =
 pub knows_some : (item : List ℕ) (rest known : List (List ℕ)) → IsPrefix (item ∷ rest) known → 0 < length known
 knows_some item rest known prefix = subst (λ items. 0 < length items) prefix.1 (omega arith)
 
-same_first : (one other : List ℕ) (rest more : List (List ℕ)) → one ∷ rest ≡ other ∷ more → other ≡ one
-same_first one other rest more is = cc
-
-same_rest : (one other : List ℕ) (rest more : List (List ℕ)) → one ∷ rest ≡ other ∷ more → rest ≡ more
-same_rest one other rest more is = cc
-
 -- the item that is taken is the first of them, and the others are known still
 pub record IsNextKnown (item first : List ℕ) (rest after : List (List ℕ)) : Type 0 where
   pub same : first ≡ item
@@ -64,17 +59,12 @@ pub known_next : (item first : List ℕ) (rest before after : List (List ℕ)) �
     → IsNextKnown item first rest after
 known_next item first rest before after known shown =
     let all : item ∷ ((rest ++ known.0) ++ shown.0) ≡ first ∷ after = ap (λ items. items ++ shown.0) known.1 ∙ shown.1 in record {
-      same = same_first item first ((rest ++ known.0) ++ shown.0) after all;
+      same = sym (heads item first ((rest ++ known.0) ++ shown.0) after all);
       more = (
         known.0 ++ shown.0,
-        sym (append_assoc rest known.0 shown.0) ∙ same_rest item first ((rest ++ known.0) ++ shown.0) after all,
+        sym (append_assoc rest known.0 shown.0) ∙ tails item first ((rest ++ known.0) ++ shown.0) after all,
       );
     }
-
--- a half that has not failed
-pub has_not_failed : (failed : Bool) → not failed ≡ true → failed ≡ false
-has_not_failed true is = absurd (false≢true is)
-has_not_failed false is = refl
 
 -- ---- a message
 

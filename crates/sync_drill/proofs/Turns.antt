@@ -5,11 +5,11 @@ use Rattle.ldap_constants.specs.declared.result_codes.TheConstants.{BUSY}
 use Rattle.ldap_messages.specs.Whole.{HasSpelling, MessageValue, message_octets, message_value}
 use Rattle.ldap_messages.specs.declared.message.Message.{Message}
 use Rattle.sync_model.specs.Message.{SyncMessage}
-use Rattle.sync_model.specs.Stream.{SyncOperation}
+use Rattle.sync_model.specs.Stream.{SyncOperation, RefreshPiece, last_mark}
 use Rattle.sync_model.proofs.Gather.{Each}
 use Rattle.sync_model.proofs.Groups.{each_one}
-use Rattle.sync_provider.specs.Law.{session_at}
-use Rattle.sync_provider.specs.Opened.{bare_search}
+use Rattle.sync_slices.specs.Slices.{all_pieces}
+use Rattle.sync_provider.specs.Opened.{sliced_of}
 use Rattle.sync_provider.proofs.Growing.{GoesOn, stream_goes}
 use Rattle.sync_provider.proofs.Kept.{hands}
 use Rattle.sync_model.specs.Message.SyncMessage.{AddOrModify, Delete, Present, IdSet, NewCookie, RefreshDelete, RefreshPresent, Done, Ignored}
@@ -17,14 +17,15 @@ use Rattle.sync_wire.specs.Sending.{sent}
 use Rattle.directory_writes.specs.Directory.{DirectoryState}
 use Rattle.sync_provider.specs.HandingOut.{HandOut, turn_of, turn_of_message, turn_of_pending}
 use Rattle.sync_provider.specs.HandingOut.HandOut.{Hands, Closes, Waits, Unknown}
-use Rattle.sync_provider.specs.Ports.{PortState, FollowedSearch, HandOutReplies, IsReplied, after_turn_in, end_of, handed_in, ended_in, stream_in, turn_in}
+use Rattle.sync_provider.specs.Ports.{PortState, FollowedSearch, HandOutReplies, IsReplied, after_turn_in, closing_of, handed_in, ended_in, stream_in, turn_in}
 use Rattle.sync_provider.specs.Search.{busy_end}
 use Rattle.sync_provider.specs.declared.handed.Handed.{Handed}
 use Rattle.sync_provider.specs.declared.handed.Handed.TheVariants as handed
 use Rattle.sync_provider.specs.declared.journal_note.ClosedSearch.{ClosedSearch}
-use Rattle.sync_drill.specs.Delivered.{delivered, encoded, handed_by, handed_of, search_id}
+use Rattle.sync_drill.specs.Delivered.{delivered, encoded, handed_by, handed_of, opened_operation, search_id, stream_at_once}
 use Rattle.sync_drill.specs.Going.{HasGoneOn}
 use Rattle.sync_drill.specs.Handing.{EndsBusy, IsDone, IsHanding, MayOpen}
+use Rattle.sync_drill.proofs.AtOnce.{at_once}
 use Rattle.sync_drill.proofs.Going.{goes-twice, later-goes, stays}
 use Rattle.sync_drill.proofs.SearchesGo.{ended-goes, handed-goes}
 use Rattle.sync_drill.proofs.Handings.{followed_now, handing-handed, handing-later, may_open-ended}
@@ -70,7 +71,7 @@ record IsNext (d : DirectoryState) (f : FollowedSearch) (value : MessageValue) :
   pub in_time : f.over ≡ false
   pub first : SyncMessage
   pub rest : List SyncMessage
-  pub left : drop f.handed (stream_in d f.opened) ≡ first ∷ rest
+  pub left : drop f.handed (stream_in d f) ≡ first ∷ rest
   pub is : value ≡ sent f.opened.id first
 
 -- the end with the code busy, where a write was too much
@@ -80,7 +81,7 @@ record IsBusy (f : FollowedSearch) (value : MessageValue) : Type 0 where
 
 module _ (d : DirectoryState) (f : FollowedSearch) where
   abbrev left : List SyncMessage
-  left = drop f.handed (stream_in d f.opened)
+  left = drop f.handed (stream_in d f)
 
   -- the turn, by whether a write was too much and by what is left
   turn_by : (b : Bool) → f.over ≡ b → turn_in d (Some f) ≡ turn_of_pending f.opened.id (cond b (busy_end ∷ []) left)
@@ -156,16 +157,19 @@ module _ (d : DirectoryState) (f : FollowedSearch) where
   not_yet goes code value next turn = bad (turn ∙ turn_left (next.first ∷ next.rest) next.in_time next.left ∙ hands f.opened.id next.first (each_one GoesOn earlier next.rest next.first (subst (Each GoesOn) (sym whole) all)))
     where
       operation : SyncOperation
-      operation = session_at d (bare_search f.opened) d.writes
+      operation = opened_operation d f.opened
 
-      all : Each GoesOn (stream_in d f.opened)
-      all = stream_goes operation f.opened.start f.opened.accepted (length d.writes - f.opened.accepted) goes
+      pieces : List RefreshPiece
+      pieces = all_pieces (sliced_of d f.opened) f.marks (length d.writes)
+
+      all : Each GoesOn (stream_in d f)
+      all = stream_goes operation f.opened.start f.opened.accepted pieces (length d.writes - last_mark f.opened.accepted pieces) goes
 
       earlier : List SyncMessage
-      earlier = take f.handed (stream_in d f.opened)
+      earlier = take f.handed (stream_in d f)
 
-      whole : earlier ++ next.first ∷ next.rest ≡ stream_in d f.opened
-      whole = ap (λ rest. earlier ++ rest) (sym next.left) ∙ take-append-drop f.handed (stream_in d f.opened)
+      whole : earlier ++ next.first ∷ next.rest ≡ stream_in d f
+      whole = ap (λ rest. earlier ++ rest) (sym next.left) ∙ take-append-drop f.handed (stream_in d f)
 
       bad : Closes code value ≡ Hands (sent f.opened.id next.first) → ⊥
       bad e = cc
@@ -190,7 +194,7 @@ turn_goes p search f None new is = subst (HasGoneOn p) (sym is) (stays p)
 turn_goes p search None (Some turn) new is = subst (HasGoneOn p) (sym is) (stays p)
 turn_goes p search (Some f) (Some (Hands message)) new is = subst (HasGoneOn p) (sym is) (handed-goes p search f)
 turn_goes p search (Some f) (Some (Closes code message)) new is =
-    subst (HasGoneOn p) (sym is) (ended-goes p search (end_of search (f.handed + 1) f))
+    subst (HasGoneOn p) (sym is) (ended-goes p search (closing_of search f))
 turn_goes p search (Some f) (Some Waits) new is = subst (HasGoneOn p) (sym is) (stays p)
 turn_goes p search (Some f) (Some Unknown) new is = subst (HasGoneOn p) (sym is) (stays p)
 
@@ -220,7 +224,8 @@ module _ (consumer search : ℕ) (old new : PortState) (items : List (List ℕ))
       ap message_octets (ap (λ id. sent id next.first) (sym now.asked.id) ∙ sym next.is) in
       subst (λ item. IsHanding consumer search new (items ++ item ∷ [])) same
       (subst (λ q. IsHanding consumer search q (items ++ encoded (search_id, next.first) ∷ [])) (sym state)
-      (handing-handed consumer search p items now next.first next.rest next.left))
+      (handing-handed consumer search p items now next.first next.rest
+      (sym (ap (drop now.handed) (at_once p.directory f refl)) ∙ next.left)))
 
   small_id : (p : PortState) (now : IsHanding consumer search p items) → now.opening.id ≤ 2147483647
   small_id p now = subst (λ n. n ≤ 2147483647) (sym now.asked.id) (omega arith)
@@ -261,11 +266,16 @@ module _ (consumer search : ℕ) (old new : PortState) (items : List (List ℕ))
       let p : PortState = replied.place in
       let now : IsHanding consumer search p items = handing-later consumer search old p items replied.later h in
       let f : FollowedSearch = followed_now consumer search p items now in
-      let all : (f.over ≡ false) × (drop f.handed (stream_in p.directory f.opened) ≡ []) =
+      let all : (f.over ≡ false) × (drop f.handed (stream_in p.directory f) ≡ []) =
       none_left p.directory f (replied.replies.turn ∙ ap (turn_in p.directory) now.follows) in
       let state : new ≡ p = replied.replies.state ∙ ap (λ found. after_turn_in p search found (Some Waits)) now.follows in
       subst (λ q. IsDone consumer search q items) (sym state)
-      (record { handing = now; fits = all.0; whole = no_more now.handed (stream_in p.directory now.opening) now.within all.1 })
+      (record {
+        handing = now;
+        fits = all.0;
+        whole = no_more now.handed (stream_at_once p.directory now.opening) now.within
+            (sym (ap (drop now.handed) (at_once p.directory f refl)) ∙ all.1);
+      })
     where
       no_more : (n : ℕ) (messages : List SyncMessage) → n ≤ length messages → drop n messages ≡ [] → n ≡ length messages
       no_more zero [] low is = refl
@@ -291,10 +301,10 @@ module _ (consumer search : ℕ) (old new : PortState) (items : List (List ℕ))
       f = followed_now consumer search p items now
 
       end : ClosedSearch
-      end = end_of search (f.handed + 1) f
+      end = closing_of search f
 
       stream : List SyncMessage
-      stream = stream_in p.directory now.opening
+      stream = stream_at_once p.directory now.opening
 
       turn : Closes (pos code) (message_value message) ≡ turn_in p.directory (Some f)
       turn = replied.replies.turn ∙ ap (turn_in p.directory) now.follows

@@ -10,9 +10,11 @@ use Rattle.sync_drill.specs.declared.writing.Writing.{Writing}
 use Rattle.sync_drill.proofs.Going.{goes-twice, stays}
 
 module _ {P H : Type 0} (home : P → H) (state : P → PortState) where
+  -- a writer that does nothing
   pub writer-stays : (w : Writing P) → WriterGoes home state w w
   writer-stays w = record { its_home = refl; goes_on = stays (state w.port); no_search = λ none. none; written = refl }
 
+  -- two steps in a row
   pub writer-twice : (old mid new : Writing P) → WriterGoes home state old mid → WriterGoes home state mid new → WriterGoes home state old new
   writer-twice old mid new first second = record {
     its_home = second.its_home ∙ first.its_home;

@@ -17,6 +17,7 @@ use Rattle.sync_drill.proofs.Going.{goes-twice, later-goes, own-goes, stays}
 use Rattle.sync_drill.proofs.Notes.{later-own, own_notes}
 use Rattle.sync_drill.proofs.Refusals.{accepted_op, refused_code}
 
+-- the operations of two lists of notes in a row
 pub operations-append : (one other : List JournalNote) → operations_in (one ++ other) ≡ operations_in one ++ operations_in other
 operations-append [] other = refl
 operations-append (Wrote write ∷ one) other = ap (λ ops. write.op ∷ ops) (operations-append one other)
@@ -49,6 +50,7 @@ module _ (op : Op) (now : ℕ) (reply : Reply) (old new : PortState) (replied : 
   apart : SUCCESS ≡ OTHER → ⊥
   apart is = cc
 
+  -- a port goes on by a write, whatever its code
   pub write-goes : HasGoneOn old new
   write-goes = goes-twice old place new (later-goes old place replied.later) (by (nat_eq reply.code OTHER) refl)
     where

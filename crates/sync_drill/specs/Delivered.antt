@@ -1,17 +1,17 @@
 -- What a port's searches handed out, by the entries that the port added to the journal.
-use Rattle.std.specs.Prelude.{◌≡◌, ℕ, ◌-◌, true, List, [], ◌∷◌, ◌++◌, map, take, fold, Option, Some, None}
+use Rattle.std.specs.Prelude.{◌≡◌, ℕ, ◌-◌, true, List, [], ◌∷◌, ◌++◌, length, map, take, fold, Option, Some, None}
 use Rattle.std.specs.List.{AllZip}
 use Rattle.ldap_messages.specs.Frame.{message, read_of}
 use Rattle.ldap_messages.specs.Whole.{message_octets, message_value}
 use Rattle.ldap_messages.specs.declared.message.Message.{Message}
 use Rattle.sync_model.specs.Copy.{Copy, SyncSession, asked}
 use Rattle.sync_model.specs.Message.{SyncMessage}
+use Rattle.sync_model.specs.Stream.{SyncOperation, stream}
 use Rattle.sync_wire.specs.Sending.{sent}
 use Rattle.sync_consumer.specs.Taking.{nothing, taken_of}
 use Rattle.directory_writes.specs.Directory.{DirectoryState}
 use Rattle.sync_provider.specs.Opened.{SearchOpening}
-use Rattle.sync_provider.specs.Ports.{stream_in}
-use Rattle.sync_provider.specs.Search.{busy_end}
+use Rattle.sync_provider.specs.Search.{busy_end, session_of, whole_walk}
 use Rattle.sync_provider.specs.declared.journal_note.ClosedSearch.{ClosedSearch}
 use Rattle.sync_provider.specs.declared.journal_note.JournalNote.{JournalNote}
 use Rattle.sync_provider.specs.declared.journal_note.JournalNote.TheVariants.{Wrote, Opened, Closed}
@@ -21,6 +21,17 @@ abbrev pub search_id : ℕ
 search_id = 1
 
 -- ---- the messages of its searches
+
+-- a search over the writes of a directory
+abbrev pub opened_operation : DirectoryState → SearchOpening → SyncOperation
+opened_operation d opening = session_of opening.persists d.sid d.history opening.spec d.writes
+
+-- all its messages up to these, where its refresh is decided at its acceptance
+abbrev pub stream_at_once : DirectoryState → SearchOpening → List SyncMessage
+stream_at_once d opening =
+    stream (opened_operation d opening) opening.start opening.accepted
+    (whole_walk (opened_operation d opening) opening.start opening.accepted)
+    (length d.writes - opening.accepted)
 
 -- a message with its message ID
 abbrev pub Numbered : Type 0
@@ -36,7 +47,8 @@ handed_of (Some before) handed stream =
 -- what a search handed out that is over, of its Stream over the writes of a directory
 abbrev pub handed_by : DirectoryState → SearchOpening → ClosedSearch → List Numbered
 handed_by d opening end =
-    map (λ message. (opening.id, message)) (handed_of end.over end.handed (stream_in d opening))
+    map (λ message. (opening.id, message))
+    (handed_of end.over end.handed (stream_at_once d opening))
 
 -- all that the searches handed out that are over, one search after the other; the first is open
 -- where one is given

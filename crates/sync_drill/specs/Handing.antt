@@ -9,14 +9,14 @@ use Rattle.directory_writes.specs.Directory.{DirectoryState}
 use Rattle.link_rings.specs.Ends.{taken, known_items}
 use Rattle.link_rings.specs.declared.ends.Consumer.{Consumer}
 use Rattle.sync_provider.specs.Opened.{SearchOpening}
-use Rattle.sync_provider.specs.Ports.{PortState, stream_in}
+use Rattle.sync_provider.specs.Ports.{PortState}
 use Rattle.sync_provider.specs.declared.journal_note.ClosedSearch.{ClosedSearch}
 use Rattle.sync_provider.specs.declared.journal_note.JournalNote.{JournalNote}
 use Rattle.sync_provider.specs.declared.journal_note.JournalNote.TheVariants.{Opened, Closed}
 use Rattle.sync_provider.specs.declared.searches.SyncSearch.{SyncSearch}
 use Rattle.sync_consumer.specs.Taking.{ConsumerState}
 use Rattle.drill_plan.specs.Ending.{followed_by}
-use Rattle.sync_drill.specs.Delivered.{search_id, delivered, encoded, IsMadeOf}
+use Rattle.sync_drill.specs.Delivered.{search_id, stream_at_once, delivered, encoded, IsMadeOf}
 use Rattle.sync_drill.specs.Journals.{notes_of}
 
 -- how many messages of its Stream a search handed out that is over
@@ -29,7 +29,7 @@ abbrev pub AreEnded : DirectoryState → List JournalNote → Type 0
 AreEnded d [] = Unit {0}
 AreEnded d (Opened opening ∷ Closed end ∷ notes) =
     (opening.number ≡ end.number) × (opening.accepted ≤ length d.writes)
-    × (count_of end.over end.handed ≤ length (stream_in d opening)) × AreEnded d notes
+    × (count_of end.over end.handed ≤ length (stream_at_once d opening)) × AreEnded d notes
 AreEnded d (note ∷ notes) = ⊥
 
 -- a search as a consumer's port opens it: without a cookie, of what the consumer follows
@@ -47,7 +47,7 @@ pub record EndsBusy (consumer : ℕ) (d : DirectoryState) (opening : SearchOpeni
   pub before : ℕ
   pub over : end.over ≡ Some before
   pub handed : end.handed ≡ before + 1
-  pub within : before ≤ length (stream_in d opening)
+  pub within : before ≤ length (stream_at_once d opening)
 
 -- each search of these has ended so
 abbrev pub AllEndBusy : ℕ → DirectoryState → List JournalNote → Type 0
@@ -70,25 +70,31 @@ pub record IsHanding (consumer search : ℕ) (port : PortState) (items : List (L
   pub handed : ℕ
   pub over : Bool
   pub follows : port.followed search
-      ≡ Some (record { opened = opening; handed = handed; over = over })
+      ≡ Some (record {
+        opened = opening;
+        handed = handed;
+        marks = opening.accepted ∷ [];
+        over = over;
+      })
   pub alone : (n : ℕ) → n ≢ search → port.followed n ≡ None
   pub its_number : opening.number ≡ search
   pub asked : IsOpening consumer opening
   pub before : opening.accepted ≤ length port.directory.writes
-  pub within : handed ≤ length (stream_in port.directory opening)
+  pub within : handed ≤ length (stream_at_once port.directory opening)
   pub ended : List JournalNote
   pub are_ended : AreEnded port.directory ended
   pub busy : AllEndBusy consumer port.directory ended
   pub own : notes_of port.number port.journal ≡ ended ++ Opened opening ∷ []
   pub offered_is : items
       ≡ map encoded (delivered port.directory ended
-      ++ map (λ message. (search_id, message)) (take handed (stream_in port.directory opening)))
+      ++ map (λ message. (search_id, message))
+      (take handed (stream_at_once port.directory opening)))
 
 -- all that is due was handed out
 pub record IsDone (consumer search : ℕ) (port : PortState) (items : List (List ℕ)) : Type 0 where
   pub handing : IsHanding consumer search port items
   pub fits : handing.over ≡ false
-  pub whole : handing.handed ≡ length (stream_in port.directory handing.opening)
+  pub whole : handing.handed ≡ length (stream_at_once port.directory handing.opening)
 
 -- a consumer that made of these items what it has
 pub record HasTaken (consumer : ℕ) (copy : ConsumerState) (items : List (List ℕ)) : Type 0 where

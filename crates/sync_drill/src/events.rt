@@ -115,6 +115,12 @@ impl DrillEvents {
         self.written.advance();
     }
 
+    /// All writers have ended, or never begin.
+    pub(crate) fn end_all_writing(&self) {
+        self.writers.store(0, Ordering::SeqCst);
+        self.written.advance();
+    }
+
     /// Whether a writer has not ended.
     pub(crate) fn may_be_written(&self) -> bool {
         self.writers.load(Ordering::SeqCst) > 0

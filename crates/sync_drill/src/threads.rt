@@ -56,7 +56,10 @@ pub(crate) fn write_each<R: Threads + Sync, P: Port + Send>(
         requires { MayWrite writing }
         ensures { WriterGoes P.home P.state writing result }
     { writing.work(events) };
-    map_vec(rt, writings, &work)
+    let ended = map_vec(rt, writings, &work);
+    // Where memory ran out, some may have been dropped before they began: no one waits for these.
+    events.end_all_writing();
+    ended
 }
 
 /// The ports of writers that have nothing left. It is `NoMemory` where one has, or memory runs out.

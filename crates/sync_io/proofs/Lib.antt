@@ -1,3 +1,4 @@
 pub mod Appending
+pub mod Results
 pub mod Scripts
 pub mod Sides

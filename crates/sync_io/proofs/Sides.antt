@@ -1,5 +1,5 @@
 -- What a call of one side of a link leaves of the other, and what several calls come to.
-use Rattle.std.proofs.Common.{◌≡◌, ◌≤◌, ℕ, Bool, List, [], Option, Some, None, sym, ap, ◌∙◌, arith}
+use Rattle.std.proofs.Common.{◌≡◌, ◌≤◌, ◌<◌, ℕ, Bool, List, [], Option, Some, None, sym, ap, ◌∙◌, arith}
 use Rattle.std.specs.Io.KnownBytes.{Consumes, Keeps}
 use Rattle.sync_io.specs.Faults.{CountHasRisen}
 use Rattle.sync_io.specs.Sides.{SinkSide, SourceSide}
@@ -69,3 +69,7 @@ keeps_none (Some xs) (Some ys) h = sym h
 -- a count that rose has risen since earlier
 pub rose_later : (first before now : ℕ) → first ≤ before → CountHasRisen before now → CountHasRisen first now
 rose_later first before now later rose = omega (arith, later, rose)
+
+-- a count that rose from nothing is more than nothing
+pub rose_from : (before now : ℕ) → before ≡ 0 → CountHasRisen before now → 0 < now
+rose_from before now none rose = omega (arith, none, rose)

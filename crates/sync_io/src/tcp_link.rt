@@ -4,31 +4,31 @@ ghost use Rattle.std.specs.Io.{ReadsAtMost};
 
 use crate::faults::count_fault;
 use crate::{Link, Piece, Put, Sink, Source};
+use libc::net::{POLLIN, poll};
+use libc::types::pollfd;
 use std::io::{ErrorKind, Read, Write};
 use std::net::TcpStream;
+use std::os::fd::AsRawFd;
 use std::time::Duration;
 use std::{io, mem};
 
 /// How many milliseconds a read waits at most, and how many where bytes went a short while ago:
 /// whoever was just answered mostly has more to ask, and a search that stays mostly has more to
 /// send.
-const WAIT: u64 = 20;
+const WAIT: i32 = 20;
 
-const SHORT_WAIT: u64 = 1;
+const SHORT_WAIT: i32 = 1;
 
 /// How many reads after bytes went in or out wait shortly.
 const SHORT_READS: u8 = 16;
 
-/// After this many bytes a read does not wait: a system's clock may make eight milliseconds of one,
-/// and what was written together was mostly not all.
+/// After this many bytes a read does not wait: what was written together was mostly not all.
 const LARGE: usize = 4_096;
 
 /// A link over TCP. It reports none of its bytes. A read waits for a moment, and is then quiet.
 #[derive(Drop)]
 pub struct TcpLink {
     stream: TcpStream,
-    /// How many milliseconds the stream's reads wait.
-    wait: u64,
     /// How many of the next reads wait shortly.
     short_reads: u8,
     /// How many bytes were written since the last read.
@@ -44,9 +44,9 @@ impl TcpLink {
         ensures write_faults { result.write_faults ≡ 0 }
     {
         let _ = stream.set_nodelay(true);
+        let _ = stream.set_read_timeout(Some(Duration::from_millis(WAIT as u64)));
         TcpLink {
             stream,
-            wait: 0,
             short_reads: 0,
             written: 0,
             read_faults: 0,
@@ -54,45 +54,44 @@ impl TcpLink {
         }
     }
 
-    /// Reads as the stream does, for as long as a read waits now.
+    /// Reads as the stream does, once something has come, or gives up after a while.
     fn read_soon(&mut self, buffer: &mut [u8]) -> io::Result<usize>
         ensures bound { ReadsAtMost result buffer.new }
         ensures read_faults { self.new.read_faults ≡ self.old.read_faults }
         ensures write_faults { self.new.write_faults ≡ self.old.write_faults }
     {
         let written = mem::replace(&mut self.written, 0);
-        if LARGE <= written {
-            return self.read_at_once(buffer);
-        }
-        let wait = next_wait(&mut self.short_reads);
-        if wait != self.wait {
-            self.stream
-                .set_read_timeout(Some(Duration::from_millis(wait)))?;
-            self.wait = wait;
+        let wait = next_wait(written, &mut self.short_reads);
+        if !is_ready(&self.stream, wait) {
+            return Err(io::Error::from(ErrorKind::WouldBlock));
         }
         self.stream.read(buffer)
     }
-
-    /// Reads what has come.
-    fn read_at_once(&mut self, buffer: &mut [u8]) -> io::Result<usize>
-        ensures bound { ReadsAtMost result buffer.new }
-        ensures read_faults { self.new.read_faults ≡ self.old.read_faults }
-        ensures write_faults { self.new.write_faults ≡ self.old.write_faults }
-    {
-        self.stream.set_nonblocking(true)?;
-        let found = self.stream.read(buffer);
-        self.stream.set_nonblocking(false)?;
-        found
-    }
 }
 
-/// How many milliseconds the next read waits, where this many of the next wait shortly.
-fn next_wait(short_reads: &mut u8) -> u64 {
+/// How many milliseconds the next read waits: none after much was written, few while reads wait
+/// shortly.
+fn next_wait(written: usize, short_reads: &mut u8) -> i32 {
+    if LARGE <= written {
+        return 0;
+    }
     if *short_reads == 0 {
         return WAIT;
     }
     *short_reads -= 1;
     SHORT_WAIT
+}
+
+/// Whether something has come, or the end, in this many milliseconds at most. They are of the
+/// system's fine clock. A timeout of the stream itself is one in ticks: of one millisecond it may
+/// make eight. Where the call fails, the read is to find why.
+fn is_ready(stream: &TcpStream, wait: i32) -> bool {
+    let mut asked = [pollfd {
+        fd: stream.as_raw_fd(),
+        events: POLLIN,
+        revents: 0,
+    }];
+    poll(&mut asked, wait) != 0
 }
 
 /// Whether a read ended because no byte came in its time.

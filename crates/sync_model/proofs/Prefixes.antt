@@ -226,7 +226,8 @@ group_prefix cookie old new prefix rest h = step (touched old new) (each-touched
   step [] steps q = inr (nil_prefix prefix rest q)
   step (entry_change ∷ entry_changes) steps q = closed_prefix (notified_all cookie (entry_change ∷ entry_changes)) prefix rest (touches_closed entry_changes entry_change cookie steps) q
 
-nil_is : {X : Type 0} (xs : List X) → is_nil xs ≡ true → xs ≡ []
+-- a list that the test finds empty is
+pub nil_is : {X : Type 0} (xs : List X) → is_nil xs ≡ true → xs ≡ []
 nil_is [] h = refl
 nil_is (x ∷ xs) h = absurd (false≢true h)
 

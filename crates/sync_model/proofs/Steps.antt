@@ -1,7 +1,7 @@
 -- What differs over some writes, and what stays.
 use Rattle.std.proofs.Common.{◌≡◌, ℕ, zero, suc, ◌+◌, ◌-◌, ◌≤◌, Bool, true, false, cond, List, [], ◌∷◌, map, refl, sym, ap, ◌∙◌, arith, Some, None, Option, inl, inr, subst}
 use Rattle.std.specs.Prelude.{not, ◌||◌, ◌&&◌, filter, is_some}
-use Rattle.std.proofs.lemmas.Bool.{cases_lt, or_parts}
+use Rattle.std.proofs.lemmas.Bool.{cases_lt, not-false, or_parts}
 use Rattle.std.proofs.Math.Bool.{or-false, or_assoc}
 use Rattle.entry_tree.specs.declared.entry.Entry.{Entry}
 use Rattle.entry_tree.specs.Bytes.{is_one_found}
@@ -52,10 +52,7 @@ among-differing old new u =
 
 -- what does not differ is the same
 pub same_outside : (old new : List Entry) (u : ℕ) → among u (differing old new) ≡ false → entry_at old u ≡ entry_at new u
-same_outside old new u h = one_found-true _ _ (not_false _ (sym (among-differing old new u) ∙ h)) where
-  not_false : (b : Bool) → not b ≡ false → b ≡ true
-  not_false true q = refl
-  not_false false q = sym q
+same_outside old new u h = one_found-true _ _ (not-false _ (sym (among-differing old new u) ∙ h))
 
 -- no identity differs over no steps
 pub over_none : (states : ℕ → List Entry) (from : ℕ) → differing_over states from 0 ≡ []

@@ -1,13 +1,16 @@
 -- A search that handed out its first message has the rest pending.
-use Rattle.std.proofs.Common.{false, cond, List, [], ◌∷◌, ◌++◌, refl, ap, sym, ◌∙◌, append_assoc}
+use Rattle.std.proofs.Common.{false, List, [], ◌∷◌, ◌++◌, length, refl, ap, sym, ◌∙◌, append_assoc}
 use Rattle.std.specs.Prelude.{◌≡◌, ℕ, Some}
 use Rattle.sync_model.specs.Message.{SyncMessage}
 use Rattle.sync_model.specs.Message.SyncMessage.{AddOrModify, Delete, Present, IdSet, NewCookie, RefreshDelete, RefreshPresent, Done, Ignored}
-use Rattle.sync_model.proofs.Groups.{tails}
-use Rattle.sync_provider.specs.HandingOut.{HandOut, turn_of_message, without_first, search_at}
+use Rattle.sync_slices.proofs.HandingOut.{pending_then}
+use Rattle.directory_writes.specs.Directory.{DirectoryState}
+use Rattle.sync_provider.specs.HandingOut.{HandOut, turn_of_message, search_at}
 use Rattle.sync_provider.specs.HandingOut.HandOut.{Hands, Closes, Waits, Unknown}
 use Rattle.sync_provider.specs.Machine.{ProviderState}
-use Rattle.sync_provider.specs.Search.{SearchState, busy_end, pending, advanced}
+use Rattle.sync_provider.specs.Search.{SearchState, sliced, pending, advanced}
+use Rattle.sync_provider.proofs.Places.{positive}
+use Rattle.sync_provider.proofs.SearchNotified.{pending_open}
 
 -- ---- the messages before and after
 
@@ -22,44 +25,25 @@ place_of taken link messages rest first all same whole = append_assoc taken link
 
 -- ---- a search that handed out its first message
 
--- the search without the first message that was pending
-pub record IsAdvanced (s after : SearchState) (rest : List SyncMessage) : Type 0 where
+-- the search without the first message that was pending on this directory
+pub record IsAdvanced (d : DirectoryState) (s after : SearchState) (rest : List SyncMessage) : Type 0 where
   pub id : after.id ≡ s.id
   pub spec : after.spec ≡ s.spec
   pub persists : after.persists ≡ s.persists
   pub over : after.over ≡ s.over
-  pub same : pending after ≡ rest
+  pub same : pending d after ≡ rest
 
 -- a search that is not over has all but the first message pending after its turn
-pub advanced_is : (s : SearchState) (rest : List SyncMessage) (first : SyncMessage) → s.over ≡ false → pending s ≡ first ∷ rest → IsAdvanced s (without_first s) rest
-advanced_is s rest first open' some = by s.rest refl s.due refl
-  where
-    both : s.rest ++ s.due ≡ first ∷ rest
-    both = ap (λ b. cond b (busy_end ∷ []) (s.rest ++ s.due)) (sym open') ∙ some
-
-    by : (prefix : List SyncMessage) → s.rest ≡ prefix → (due : List SyncMessage) → s.due ≡ due → IsAdvanced s (advanced s prefix due) rest
-    by [] none [] nothing =
-        let bad : [] ≡ first ∷ rest = (λ i. sym none i ++ sym nothing i) ∙ both in
-        let never : ⊥ = cc in
-        absurd never
-    by [] none (m ∷ due) is =
-        let whole : m ∷ due ≡ first ∷ rest = (λ i. sym none i ++ sym is i) ∙ both in
-        record {
-          id = refl;
-          spec = refl;
-          persists = refl;
-          over = refl;
-          same = ap (λ b. cond b (busy_end ∷ []) (s.rest ++ due)) open' ∙ ap (λ ms. ms ++ due) none ∙ tails m first due rest whole;
-        }
-    by (m ∷ prefix) is due same =
-        let whole : m ∷ (prefix ++ s.due) ≡ first ∷ rest = ap (λ ms. ms ++ s.due) (sym is) ∙ both in
-        record {
-          id = refl;
-          spec = refl;
-          persists = refl;
-          over = refl;
-          same = ap (λ b. cond b (busy_end ∷ []) (prefix ++ s.due)) open' ∙ tails m first (prefix ++ s.due) rest whole;
-        }
+pub advanced_is : (d : DirectoryState) (s : SearchState) (rest : List SyncMessage) (first : SyncMessage) → s.over ≡ false → pending d s ≡ first ∷ rest → IsAdvanced d s (advanced d s) rest
+advanced_is d s rest first open' some = record {
+  id = refl;
+  spec = refl;
+  persists = refl;
+  over = refl;
+  same =
+      pending_open d (advanced d s) open'
+      ∙ pending_then (sliced d s) (length d.writes) s.progress (positive d s) first rest (sym (pending_open d s open') ∙ some);
+}
 
 -- searches by their numbers
 abbrev pub Searches : Type 0

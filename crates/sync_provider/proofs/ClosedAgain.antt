@@ -4,9 +4,10 @@ use Rattle.std.specs.Prelude.{◌⊎◌}
 use Rattle.std.specs.BTreeMap.{insert_entry, is_at}
 use Rattle.std.specs.Ordering.{nat_cmp, match_ordering}
 use Rattle.std.proofs.lemmas.Bool.{cases_order}
+use Rattle.directory_writes.specs.Directory.{DirectoryState}
 use Rattle.directory_writes.proofs.Keyed.{kept_at, closed_at, put_on, is_at-same, is_at-other, less_cmp, more_cmp}
-use Rattle.sync_provider.specs.HandingOut.{without_first, handed_on}
-use Rattle.sync_provider.specs.Search.{SearchState}
+use Rattle.sync_provider.specs.HandingOut.{handed_on}
+use Rattle.sync_provider.specs.Search.{SearchState, advanced}
 
 closed_put : (es : List (ℕ × SearchState)) (k : ℕ) (s : SearchState) → closed_at (put_on es k s) k ≡ closed_at es k
 closed_put [] k s = refl
@@ -17,9 +18,9 @@ closed_put (e ∷ es) k s = by (closed_put es k s) (is_at (nat_cmp k) e.0) refl
     by rest false miss = ap (λ b. cond b (put_on es k s) (e ∷ closed_at (put_on es k s) k)) miss ∙ ap (λ xs. e ∷ xs) rest
 
 -- with the first message of a search handed out
-pub closed_on : (es : List (ℕ × SearchState)) (k : ℕ) (found : Option SearchState) → closed_at (handed_on es k found) k ≡ closed_at es k
-closed_on es k None = refl
-closed_on es k (Some s) = closed_put es k (without_first s)
+pub closed_on : (d : DirectoryState) (es : List (ℕ × SearchState)) (k : ℕ) (found : Option SearchState) → closed_at (handed_on d es k found) k ≡ closed_at es k
+closed_on d es k None = refl
+closed_on d es k (Some s) = closed_put es k (advanced d s)
 
 -- one that is opened and closed leaves those that were open
 pub closed_opened : (es : List (ℕ × SearchState)) (k : ℕ) (s : SearchState) → kept_at es k ≡ None → closed_at (insert_entry nat_cmp es k s) k ≡ es

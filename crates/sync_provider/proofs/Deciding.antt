@@ -29,11 +29,12 @@ use Rattle.directory_writes.specs.Directory.{DirectoryState, entries_of, cookie_
 use Rattle.sync_provider.specs.Gathering.{AreOf}
 use Rattle.directory_writes.specs.Starting.{CanBegin}
 use Rattle.sync_provider.specs.Refreshing.{all_identities, walked, item_of, item_at, planned, sends, said_all}
-use Rattle.sync_provider.specs.Search.{cookie_after, session_of, messages_of, refresh_from}
+use Rattle.sync_slices.specs.Slices.{first_progress}
+use Rattle.sync_provider.specs.Search.{cookie_after, session_of, sliced_from, settled_progress, messages_of}
 use Rattle.directory_writes.specs.Touches.{last_touch}
 use Rattle.sync_provider.specs.declared.refresh_item.RefreshItem.{RefreshItem}
 use Rattle.directory_writes.proofs.Keyed.{less_cmp}
-use Rattle.sync_provider.proofs.Refreshes.{decided_all, refresh_from-is}
+use Rattle.sync_provider.proofs.Refreshes.{decided_all, first_settled}
 use Rattle.directory_writes.proofs.Notified.{last-shows}
 use Rattle.directory_writes.proofs.Writes.{state_now, csn_now, ascends_now}
 
@@ -174,11 +175,12 @@ module _ (persists : Bool) (d : DirectoryState) (search : Search) where
   cookie : cookie_of d ≡ cookie_after d.sid d.history d.writes (length d.writes)
   cookie = ap (λ csn. cookie_text (cookie_at d.sid d.history csn)) (sym (csn_now d d.writes [] (append-nil d.writes)))
 
-  -- the parts that the code makes are the Stream's refresh
+  -- with the parts that the code makes it stands at the beginning of its Stream
   pub refresh_is : (start : Start) (parts : List RefreshItem) → CanBegin d start
       → AreOf (said_all (entries_of d) (planned start (map (item_at d search) (walked d start)))) parts
-      → messages_of persists (is_delete_phase start) parts (cookie_of d) ≡ refresh_from (session_of persists d.sid d.history search d.writes) start (length d.writes)
+      → settled_progress (length d.writes) (messages_of persists (is_delete_phase start) parts (cookie_of d)) [] ≡ first_progress (sliced_from (session_of persists d.sid d.history search d.writes) start (length d.writes))
   refresh_is start parts served made =
-      ap (λ ms. ms ++ end_of persists (is_delete_phase start) (cookie_of d) ∷ []) (made (is_delete_phase start))
-      ∙ (λ i. gathered (is_delete_phase start) (decisions-are start served i) ++ end_of persists (is_delete_phase start) (cookie i) ∷ [])
-      ∙ sym (refresh_from-is operation start (length d.writes))
+      ap (λ messages. settled_progress (length d.writes) messages [])
+      (ap (λ ms. ms ++ end_of persists (is_delete_phase start) (cookie_of d) ∷ []) (made (is_delete_phase start))
+      ∙ (λ i. gathered (is_delete_phase start) (decisions-are start served i) ++ end_of persists (is_delete_phase start) (cookie i) ∷ []))
+      ∙ sym (first_settled operation start (length d.writes))

@@ -1,16 +1,16 @@
 -- What is pushed into a queue, by whether it is full, and the room for what is staged.
 use Rattle.std.proofs.Common.{◌≡◌, ℕ, ◌+◌, ◌-◌, ◌<◌, ◌≤◌, ◌^◌, Bool, true, false, cond, nat_lt, List, [], ◌∷◌, ◌++◌, length, map, refl, ap, sym, subst, ◌∙◌, arith, inl, inr, ◌⊎◌}
-use Rattle.std.specs.Prelude.{◌||◌, ◌↔◌, sum_by, is_err, Result, Ok, Err, IfErr}
+use Rattle.std.specs.Prelude.{not, ◌&&◌, ◌||◌, ◌↔◌, sum_by, is_err, Result, Ok, Err, IfErr}
 use Rattle.std.proofs.lemmas.Bool.{false≢true, lt-ltb, ltb-true, or_right}
-use Rattle.std.proofs.lemmas.List.{map_push}
+use Rattle.std.proofs.lemmas.List.{map_push, append-nil}
 use Rattle.std.proofs.lemmas.List.Sums.{sum_by-append, sum_by-cons}
 use Rattle.persist_queues.specs.Pending.{IsOver}
 use Rattle.persist_queues.specs.declared.fault.QueueFault.{QueueFault}
 use Rattle.persist_queues.specs.declared.fault.QueueFault.TheVariants.{QueueFull, NoMemory}
 use Rattle.sync_model.specs.Message.{SyncMessage}
-use Rattle.sync_provider.specs.Queueing.{message_weight, most_pending_weight, is_full, overflowed, pushed}
+use Rattle.sync_provider.specs.Queueing.{message_weight, most_pending_weight, is_full, overflowed}
 use Rattle.sync_provider.specs.Search.{SearchState}
-use Rattle.sync_provider.specs.Staging.{HeldSearch, counted_weight, pushed_group, pushed_staged, first_pushed, HasRoom}
+use Rattle.sync_provider.specs.Staging.{HeldSearch, counted_weight, queued, pushed_by, pushed_group, pushed_staged, first_pushed, HasRoom}
 use Rattle.sync_provider.proofs.Saying.{counted_sum}
 
 -- ---- the weights as they are counted
@@ -46,22 +46,33 @@ room_is limit items none = by (nat_lt limit (length items)) (nat_lt most_pending
 
 -- ---- the search
 
+-- with these messages due after the others
+abbrev with_due : SearchState → List SyncMessage → SearchState
+with_due s messages = record s { progress = record s.progress { due = s.progress.due ++ messages } }
+
 -- without messages it stays
-pub pushed_none : (limit : ℕ) (messages : List SyncMessage) (s : SearchState) → length messages ≡ 0 → pushed limit messages s ≡ s
-pushed_none limit [] s none = refl
+pub pushed_none : (limit : ℕ) (messages : List SyncMessage) (s : SearchState) → length messages ≡ 0 → queued limit messages s ≡ s
+pushed_none limit [] s none = ap (λ due. record s { progress = record s.progress { due = due } }) (append-nil s.progress.due)
 pushed_none limit (m ∷ ms) s none = absurd (omega (arith, none))
 
 -- where they are too much it is over
-pub pushed_over : (limit : ℕ) (messages : List SyncMessage) (s : SearchState) → 0 < length messages → IsOver counted_weight limit (s.due ++ messages)
-    → pushed limit messages s ≡ overflowed s
+pub pushed_over : (limit : ℕ) (messages : List SyncMessage) (s : SearchState) → 0 < length messages → IsOver counted_weight limit (s.progress.due ++ messages)
+    → queued limit messages s ≡ overflowed s
 pushed_over limit [] s some over = absurd (omega (arith, some))
-pushed_over limit (m ∷ ms) s some over = ap (λ b. cond b (overflowed s) (record s { due = s.due ++ m ∷ ms })) (full_is limit (s.due ++ m ∷ ms) over)
+pushed_over limit (m ∷ ms) s some over = ap (λ b. cond b (overflowed s) (with_due s (m ∷ ms))) (full_is limit (s.progress.due ++ m ∷ ms) over)
 
 -- otherwise they are pending
-pub pushed_in : (limit : ℕ) (messages : List SyncMessage) (s : SearchState) → 0 < length messages → (IsOver counted_weight limit (s.due ++ messages) → ⊥)
-    → pushed limit messages s ≡ record s { due = s.due ++ messages }
+pub pushed_in : (limit : ℕ) (messages : List SyncMessage) (s : SearchState) → 0 < length messages → (IsOver counted_weight limit (s.progress.due ++ messages) → ⊥)
+    → queued limit messages s ≡ record s { progress = record s.progress { due = s.progress.due ++ messages } }
 pushed_in limit [] s some none = absurd (omega (arith, some))
-pushed_in limit (m ∷ ms) s some none = ap (λ b. cond b (overflowed s) (record s { due = s.due ++ m ∷ ms })) (room_is limit (s.due ++ m ∷ ms) none)
+pushed_in limit (m ∷ ms) s some none = ap (λ b. cond b (overflowed s) (with_due s (m ∷ ms))) (room_is limit (s.progress.due ++ m ∷ ms) none)
+
+-- a write is reported to a search whose pieces are all decided where it goes on and is not over
+pub noting_settled : (persists over : Bool) → (persists && not over) ≡ (not over && (persists || false))
+noting_settled true true = refl
+noting_settled true false = refl
+noting_settled false true = refl
+noting_settled false false = refl
 
 -- ---- the room for what is staged
 
@@ -127,28 +138,31 @@ pub first_some : {M : Type 0} (shows : M → List SyncMessage) (limit : ℕ) (s 
 first_some shows limit s staged rest messages is = ap (λ all. first_pushed limit s (map shows all)) is
 
 -- it is dropped where a write was too much, or there is nothing in it
-pub group_dropped : (limit : ℕ) (messages : List SyncMessage) (s : SearchState) → (s.over ≡ true) ⊎ (length messages ≡ 0) → pushed_group limit messages s ≡ s
-group_dropped limit messages s (inl over) = ap (λ b. cond b s (pushed limit messages s)) over
-group_dropped limit messages s (inr none) = ap (cond s.over s) (pushed_none limit messages s none) ∙ same s.over
+pub group_dropped : (limit : ℕ) (messages : List SyncMessage) (s : SearchState) → s.progress.left ≡ [] → (s.over ≡ true) ⊎ (length messages ≡ 0) → pushed_group limit messages s ≡ s
+group_dropped limit messages s settled (inl over) = ap (λ b. cond b s (pushed_by s.progress.left limit messages s)) over
+group_dropped limit messages s settled (inr none) = ap (cond s.over s) (ap (λ left. pushed_by left limit messages s) settled ∙ pushed_none limit messages s none) ∙ same s.over
   where
     same : (b : Bool) → cond b s s ≡ s
     same true = refl
     same false = refl
 
 -- and else pushed
-pub group_pushed : (limit : ℕ) (messages : List SyncMessage) (s after : SearchState) → s.over ≡ false → pushed limit messages s ≡ after → pushed_group limit messages s ≡ after
-group_pushed limit messages s after over is = ap (λ b. cond b s (pushed limit messages s)) over ∙ is
+pub group_pushed : (limit : ℕ) (messages : List SyncMessage) (s after : SearchState) → s.progress.left ≡ [] → s.over ≡ false → queued limit messages s ≡ after → pushed_group limit messages s ≡ after
+group_pushed limit messages s after settled over is =
+    ap (λ b. cond b s (pushed_by s.progress.left limit messages s)) over
+    ∙ ap (λ left. pushed_by left limit messages s) settled
+    ∙ is
 
 -- a group that is too much ends the search
-pub first_over : (limit : ℕ) (messages : List SyncMessage) (was view now : HeldSearch) → view ≡ was → view.staged ≡ messages ∷ now.staged → view.search.over ≡ false → 0 < length messages
-    → IsOver counted_weight limit (view.search.due ++ messages) → now.search ≡ overflowed view.search → now ≡ first_pushed limit was.search was.staged
-first_over limit messages was view now is staged over some full ended =
+pub first_over : (limit : ℕ) (messages : List SyncMessage) (was view now : HeldSearch) → view ≡ was → view.staged ≡ messages ∷ now.staged → view.search.progress.left ≡ [] → view.search.over ≡ false → 0 < length messages
+    → IsOver counted_weight limit (view.search.progress.due ++ messages) → now.search ≡ overflowed view.search → now ≡ first_pushed limit was.search was.staged
+first_over limit messages was view now is staged settled over some full ended =
     (λ i. record { search = (ended ∙ sym pushed) i; staged = now.staged })
     ∙ sym (ap (first_pushed limit view.search) staged)
     ∙ ap (λ (held : HeldSearch). first_pushed limit held.search held.staged) is
   where
     pushed : pushed_group limit messages view.search ≡ overflowed view.search
-    pushed = group_pushed limit messages view.search (overflowed view.search) over (pushed_over limit messages view.search some full)
+    pushed = group_pushed limit messages view.search (overflowed view.search) settled over (pushed_over limit messages view.search some full)
 
 -- what is refused where there is room is too much
 pub refused_full : {A : Type 0} (r : Result A QueueFault) (limit spare long : ℕ) (Over : Type 0) → is_err r ≡ true → (r ≡ Err (QueueFull limit)) ↔ Over → (r ≡ Err NoMemory → spare < long)

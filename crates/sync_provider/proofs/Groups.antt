@@ -32,7 +32,8 @@ use Rattle.entry_tree.proofs.Taking.{among_identities}
 use Rattle.sync_model.proofs.Steps.{differs, found_there}
 use Rattle.directory_writes.specs.Directory.{DirectoryState, cookie_at, entries_of, entries_after, last_csn, with_write}
 use Rattle.directory_writes.proofs.SortedIdentities.{sorted-filter, sorted-identities, sorted-joined}
-use Rattle.directory_writes.proofs.Writes.{state_now, csn_now, last_csn-push, ascends_now}
+use Rattle.directory_writes.proofs.Csns.{last_csn-push}
+use Rattle.directory_writes.proofs.Writes.{state_now, csn_now, ascends_now}
 use Rattle.sync_provider.specs.Queueing.{group_of}
 use Rattle.sync_provider.specs.Search.{SearchState}
 use Rattle.sync_provider.specs.Staging.{if_selected, notified_of_change, notified_of_changes, with_cookie, last_with_cookie, messages_for}

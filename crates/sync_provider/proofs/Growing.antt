@@ -1,6 +1,6 @@
 -- What a search is to send, over a history that grows.
-use Rattle.std.proofs.Common.{◌≡◌, ℕ, zero, suc, ◌+◌, ◌-◌, ◌≤◌, Bool, true, false, cond, List, [], ◌∷◌, ◌++◌, length, refl, sym, ap, ◌∙◌, arith, subst, append_assoc, append-nil, length-append}
-use Rattle.std.specs.Prelude.{Option, Some, None, option_map, Result, Ok, Err}
+use Rattle.std.proofs.Common.{◌≡◌, ℕ, zero, suc, ◌+◌, Bool, true, false, cond, List, [], ◌∷◌, ◌++◌, refl, sym, ap, ◌∙◌, subst, append_assoc}
+use Rattle.std.specs.Prelude.{Option, Some, None, option_map, Result, Ok, Err, flat_map}
 use Rattle.std.specs.BTreeMap.{is_at}
 use Rattle.std.specs.Ordering.{nat_cmp}
 use Rattle.std.proofs.lemmas.Map.Made.{lookup-map_values}
@@ -9,22 +9,21 @@ use Rattle.entry_tree.specs.declared.op.Write.{Write}
 use Rattle.entry_tree.specs.declared.entry.Entry.{Entry}
 use Rattle.sync_model.specs.Message.{CookieText, SyncMessage}
 use Rattle.sync_model.specs.Message.SyncMessage.{AddOrModify, Delete, Present, IdSet, NewCookie, RefreshDelete, RefreshPresent, Done, Ignored}
-use Rattle.sync_model.specs.Stream.{SyncOperation, Start, WalkDecision, group, later, stream, notified, notified_all, gathered, end_of, is_delete_phase, content_after}
+use Rattle.sync_model.specs.Stream.{SyncOperation, Start, RefreshPiece, WalkDecision, content_after, is_delete_phase, decide_piece, decide_late, last_mark, late_uuids, gathered, end_of, after_walk, refresh, notified, notified_all, group, later, stream}
 use Rattle.sync_model.proofs.Gather.{Each, each_weaker, IsPart, each-append, each-gathered}
 use Rattle.sync_model.proofs.NextMessages.{any_decision}
 use Rattle.entry_tree.specs.declared.touched.EntryChange.{EntryChange}
 use Rattle.entry_tree.specs.Touched.{touched}
 use Rattle.directory_writes.specs.Directory.{DirectoryState, judged, with_write, with_judged}
 use Rattle.sync_provider.specs.HandingOut.{search_at}
-use Rattle.sync_provider.specs.Law.{BeginsWith, session_at, refresh_of, later_of}
+use Rattle.sync_provider.specs.Law.{BeginsWith, refresh_at}
 use Rattle.sync_provider.specs.Committing.{commit_refusal}
 use Rattle.sync_provider.specs.Machine.{ProviderState, ProviderCall, each_search_notified, judged_by, called, run}
 use Rattle.sync_provider.specs.Machine.ProviderCall.{Writes, Commits, Accepts, HandsOut, Drops, SetsLogLimit, SetsQueueLimit}
-use Rattle.sync_provider.specs.Queueing.{group_of, search_notified}
-use Rattle.sync_provider.specs.Search.{SearchState, session_of, whole_walk, refresh_from, is_end}
+use Rattle.sync_provider.specs.Queueing.{search_notified}
+use Rattle.sync_provider.specs.Search.{SearchState, session_of, sliced_from, is_end}
 use Rattle.sync_provider.proofs.Commits.{commit_case}
 use Rattle.sync_provider.proofs.SearchNotified.{IsSame}
-use Rattle.sync_provider.proofs.Refreshes.{decided_all, refresh_from-is, group-longer}
 
 -- ---- histories that begin with a directory's writes
 
@@ -36,7 +35,8 @@ judged_begins : (d : DirectoryState) (outcome : Result Write ℕ) (writes : List
 judged_begins d (Ok w) writes begins = begins_before d w writes begins
 judged_begins d (Err code) writes begins = begins
 
-called_begins : (p : ProviderState) (call : ProviderCall) (writes : List Write) → BeginsWith (called p call).directory writes → BeginsWith p.directory writes
+-- what begins with the writes after a call begins with those before it
+pub called_begins : (p : ProviderState) (call : ProviderCall) (writes : List Write) → BeginsWith (called p call).directory writes → BeginsWith p.directory writes
 called_begins p (Writes op now) writes begins = judged_begins p.directory (judged_by p.kind p.directory op now) writes begins
 called_begins p (Commits puts drops now) writes begins =
     commit_case (λ q. BeginsWith q.directory writes → BeginsWith p.directory writes) p (Commit puts drops) now (commit_refusal p.kind p.directory puts drops now)
@@ -52,73 +52,13 @@ pub run_begins : (calls : List ProviderCall) (p : ProviderState) (writes : List 
 run_begins [] p writes begins = begins
 run_begins (call ∷ calls) p writes begins = called_begins p call writes (run_begins calls (called p call) writes begins)
 
--- ---- what later writes send
+-- ---- the same search later
 
--- none does at first
-pub later_none : (d : DirectoryState) (s : SearchState) (writes : List Write) → later_of d s s.accepted writes ≡ []
-later_none d s writes =
-    let none : s.accepted - s.accepted ≡ 0 = omega arith in
-    ap (λ n. cond {A = List SyncMessage} s.persists (later (session_at d s writes) s.accepted n) []) none ∙ both s.persists
-  where
-    both : (b : Bool) → cond {A = List SyncMessage} b [] [] ≡ []
-    both true = refl
-    both false = refl
-
--- one write more sends what it changes to a search that goes on
-pub stream_more : (operation : SyncOperation) (start : Start) (opened count : ℕ)
-    → stream operation start opened (whole_walk operation start opened) (suc count)
-    ≡ stream operation start opened (whole_walk operation start opened) count ++ cond operation.persists (group operation (opened + count)) []
-stream_more operation start opened count = by operation.persists
-  where
-    refreshed : List SyncMessage
-    refreshed = refresh_from operation start opened
-
-    by : (b : Bool)
-        → refreshed ++ cond b (later operation opened count ++ group operation (opened + count)) []
-        ≡ (refreshed ++ cond b (later operation opened count) []) ++ cond b (group operation (opened + count)) []
-    by true = sym (append_assoc refreshed (later operation opened count) (group operation (opened + count)))
-    by false = sym (append-nil (refreshed ++ []))
-
--- over each longer history a write sends the same
-pub group_in : (d : DirectoryState) (s : SearchState) (w : Write) (writes : List Write) → BeginsWith (with_write d w) writes
-    → group (session_at d s writes) (length d.writes) ≡ group_of d s w
-group_in d s w writes begins =
-    group-longer s.persists d.sid d.history s.spec (d.writes ++ w ∷ []) begins.0 writes (length d.writes) begins.1 (omega (arith, length-append d.writes (w ∷ [])))
-
--- one write more sends its messages after those of the others
-pub later_grows : (d : DirectoryState) (s : SearchState) (w : Write) (writes : List Write) → s.accepted ≤ length d.writes → BeginsWith (with_write d w) writes
-    → later_of d s (length (d.writes ++ w ∷ [])) writes ≡ later_of d s (length d.writes) writes ++ cond s.persists (group_of d s w) []
-later_grows d s w writes low begins =
-    let more : length (d.writes ++ w ∷ []) - s.accepted ≡ suc (length d.writes - s.accepted) = omega (arith, length-append d.writes (w ∷ []), low) in
-    let here : s.accepted + (length d.writes - s.accepted) ≡ length d.writes = omega (arith, low) in
-    ap (λ n. cond s.persists (later operation s.accepted n) []) more
-    ∙ by s.persists
-    ∙ ap (λ n. later_of d s (length d.writes) writes ++ cond s.persists (group operation n) []) here
-    ∙ ap (λ ms. later_of d s (length d.writes) writes ++ cond s.persists ms []) (group_in d s w writes begins)
-  where
-    operation : SyncOperation
-    operation = session_at d s writes
-
-    count : ℕ
-    count = length d.writes - s.accepted
-
-    by : (b : Bool)
-        → cond b (later operation s.accepted count ++ group operation (s.accepted + count)) []
-        ≡ cond b (later operation s.accepted count) [] ++ cond b (group operation (s.accepted + count)) []
-    by true = refl
-    by false = refl
-
--- ---- a search that is the same but for its messages
-
--- its refresh is the same
-pub refresh_like : (s0 s : SearchState) (d : DirectoryState) (writes : List Write) → IsSame s0 s → refresh_of d s0 writes ≡ refresh_of d s writes
-refresh_like s0 s d writes same i = refresh_from (session_of (sym same.persists i) d.sid d.history (sym same.spec i) writes) (sym same.start i) (sym same.accepted i)
-
--- so is what later writes send
-pub later_like : (s0 s : SearchState) (d : DirectoryState) (count : ℕ) (writes : List Write) → IsSame s0 s → later_of d s0 count writes ≡ later_of d s count writes
-later_like s0 s d count writes same i =
-    cond {A = List SyncMessage} (sym same.persists i)
-    (later (session_of (sym same.persists i) d.sid d.history (sym same.spec i) writes) (sym same.accepted i) (count - sym same.accepted i)) []
+-- its refresh is the same over each history
+pub refresh_like : (d0 : DirectoryState) (s0 : SearchState) (d : DirectoryState) (s : SearchState) → d.sid ≡ d0.sid → d.history ≡ d0.history → IsSame s0 s → (writes : List Write)
+    → refresh_at d0 s0 writes ≡ refresh_at d s writes
+refresh_like d0 s0 d s sid history same writes i =
+    sliced_from (session_of (sym same.persists i) (sym sid i) (sym history i) (sym same.spec i) writes) (sym same.start i) (sym same.accepted i)
 
 -- ---- a search among the open ones after a write
 
@@ -150,23 +90,26 @@ end_goes : (deletes : Bool) (cookie : CookieText) → GoesOn (end_of true delete
 end_goes true cookie = refl
 end_goes false cookie = refl
 
--- nor is any message of that refresh
-refresh_from-goes : (operation : SyncOperation) (start : Start) (count : ℕ) → operation.persists ≡ true → Each GoesOn (refresh_from operation start count)
-refresh_from-goes operation start count goes =
-    subst (Each GoesOn) (sym (refresh_from-is operation start count))
-    (each-append GoesOn (gathered deletes decisions) (end_with operation.persists ∷ [])
-    (each_weaker (IsPart deletes (λ entry. Unit {0}) (λ uuid. Unit {0})) GoesOn (gathered deletes decisions) (part_goes deletes)
-    (each-gathered deletes (λ entry. Unit {0}) (λ uuid. Unit {0}) decisions (any_decision decisions)))
-    (ap (λ b. is_end (end_with b)) goes ∙ end_goes deletes (operation.cookies count), tt))
+-- nor is any message of some decisions
+pub gathered_goes : (deletes : Bool) (decisions : List WalkDecision) → Each GoesOn (gathered deletes decisions)
+gathered_goes deletes decisions =
+    each_weaker (IsPart deletes (λ entry. Unit {0}) (λ uuid. Unit {0})) GoesOn (gathered deletes decisions) (part_goes deletes)
+    (each-gathered deletes (λ entry. Unit {0}) (λ uuid. Unit {0}) decisions (any_decision decisions))
+
+-- nor is what follows the walk
+after_walk_goes : (operation : SyncOperation) (covered : Bool) (last : ℕ) (late : List ℕ) → operation.persists ≡ true → Each GoesOn (after_walk operation covered last late)
+after_walk_goes operation covered last [] goes = (ap (λ b. is_end (end_of b covered (operation.cookies last))) goes ∙ end_goes covered (operation.cookies last), tt)
+after_walk_goes operation covered last (u ∷ us) goes =
+    each-append GoesOn (cond covered [] (RefreshPresent false None ∷ [])) (gathered true decisions ++ end_of operation.persists true (operation.cookies last) ∷ []) (broken covered)
+    (each-append GoesOn (gathered true decisions) (end_of operation.persists true (operation.cookies last) ∷ []) (gathered_goes true decisions)
+    (ap (λ b. is_end (end_of b true (operation.cookies last))) goes ∙ end_goes true (operation.cookies last), tt))
   where
-    deletes : Bool
-    deletes = is_delete_phase start
-
     decisions : List WalkDecision
-    decisions = decided_all operation start count
+    decisions = flat_map (decide_late operation last) (u ∷ us)
 
-    end_with : Bool → SyncMessage
-    end_with b = end_of b deletes (operation.cookies count)
+    broken : (b : Bool) → Each GoesOn (cond b [] (RefreshPresent false None ∷ []))
+    broken true = tt
+    broken false = (refl, tt)
 
 notified_goes : (cookie : Option CookieText) (uuid : ℕ) (was now : Option Entry) → Each GoesOn (notified cookie uuid was now)
 notified_goes cookie uuid None None = tt
@@ -187,9 +130,12 @@ later_all_go (suc count) operation from =
     each-append GoesOn (later operation from count) (group operation (from + count)) (later_all_go count operation from)
     (notified_all_goes (touched (content_after operation (from + count)) (content_after operation (from + count + 1))) (operation.cookies (from + count + 1)))
 
--- nor is any of a search that goes on
-pub stream_goes : (operation : SyncOperation) (start : Start) (opened count : ℕ) → operation.persists ≡ true
-    → Each GoesOn (stream operation start opened (whole_walk operation start opened) count)
-stream_goes operation start opened count goes =
-    each-append GoesOn (refresh_from operation start opened) (cond operation.persists (later operation opened count) []) (refresh_from-goes operation start opened goes)
-    (subst (λ b. Each GoesOn (cond b (later operation opened count) [])) (sym goes) (later_all_go count operation opened))
+-- nor is any of a search that goes on, however its refresh is decided
+pub stream_goes : (operation : SyncOperation) (start : Start) (opened : ℕ) (pieces : List RefreshPiece) (count : ℕ) → operation.persists ≡ true → Each GoesOn (stream operation start opened pieces count)
+stream_goes operation start opened pieces count goes =
+    each-append GoesOn (refresh operation start opened pieces) (cond operation.persists (later operation (last_mark opened pieces) count) [])
+    (each-append GoesOn (gathered (is_delete_phase start) (flat_map (decide_piece operation start) pieces))
+    (after_walk operation (is_delete_phase start) (last_mark opened pieces) (late_uuids operation opened (last_mark opened pieces)))
+    (gathered_goes (is_delete_phase start) (flat_map (decide_piece operation start) pieces))
+    (after_walk_goes operation (is_delete_phase start) (last_mark opened pieces) (late_uuids operation opened (last_mark opened pieces)) goes))
+    (subst (λ b. Each GoesOn (cond b (later operation (last_mark opened pieces) count) [])) (sym goes) (later_all_go count operation (last_mark opened pieces)))

@@ -7,6 +7,7 @@ use Rattle.std.specs.declared.cmp.Ordering.{Ordering}
 use Rattle.std.specs.declared.cmp.Ordering.TheVariants.{Less, Equal, Greater}
 use Rattle.std.proofs.lemmas.List.{length-map}
 use Rattle.std.proofs.lemmas.Map.Made.{lookup-map_values}
+use Rattle.directory_writes.specs.Directory.{DirectoryState}
 use Rattle.directory_writes.proofs.Keyed.{kept_at, closed_at, put_on}
 use Rattle.sync_provider.specs.HandingOut.{search_at, turn_of_pending, turn_of_found, turn_at}
 use Rattle.sync_provider.specs.Placing.{put_back, ComesBack, shown}
@@ -27,8 +28,8 @@ pub search_found : (es : Held) (k : ℕ) (held : HeldSearch) → kept_at es k �
 search_found es k held found = search_held es k ∙ ap (option_map (λ held. held.search)) found
 
 -- what is handed out of it
-pub turn_found : (es : Held) (k : ℕ) (held : HeldSearch) → kept_at es k ≡ Some held → turn_at (searches_of es) k ≡ turn_of_pending held.search.id (pending held.search)
-turn_found es k held found = ap turn_of_found (search_found es k held found)
+pub turn_found : (d : DirectoryState) (es : Held) (k : ℕ) (held : HeldSearch) → kept_at es k ≡ Some held → turn_at d (searches_of es) k ≡ turn_of_pending held.search.id (pending d held.search)
+turn_found d es k held found = ap (turn_of_found d) (search_found es k held found)
 
 -- none, where none is kept
 pub search_none : (es : Held) (k : ℕ) → kept_at es k ≡ None → search_at (searches_of es) k ≡ None

@@ -1,8 +1,7 @@
 -- From a servable cookie a search sends only what was touched since.
-use Rattle.std.proofs.Common.{◌≡◌, ℕ, zero, suc, ◌≤◌, Bool, true, false, cond, List, [], ◌∷◌, ◌++◌, length, Option, Some, None, refl, sym, ap, ◌∙◌, arith, subst}
+use Rattle.std.proofs.Common.{◌≡◌, ℕ, zero, suc, ◌-◌, ◌≤◌, Bool, true, false, cond, List, [], ◌∷◌, ◌++◌, length, Option, Some, None, refl, sym, ap, ◌∙◌, arith, subst}
 use Rattle.std.specs.Prelude.{All, filter_map, take, Result, Ok, Err}
 use Rattle.std.specs.List.{cons_option}
-use Rattle.std.proofs.lemmas.List.{append-nil}
 use Rattle.std.proofs.lemmas.List.Elements.{All-nil, All-cons, All-head, All-tail}
 use Rattle.std.proofs.Math.Seq.{take-append_seam}
 use Rattle.csn_cookie.specs.Csn.{upto}
@@ -11,27 +10,26 @@ use Rattle.csn_cookie.specs.declared.cookie.Cookie.{Cookie}
 use Rattle.entry_tree.specs.declared.entry.Entry.{Entry}
 use Rattle.entry_tree.specs.declared.op.Write.{Write}
 use Rattle.entry_tree.specs.History.{touched_over}
-use Rattle.entry_tree.specs.Selection.{Search, search_of}
 use Rattle.session_log.specs.Log.{covers}
 use Rattle.sync_messages.specs.Request.{request_of}
 use Rattle.sync_messages.specs.declared.fault.SyncFault.{SyncFault}
 use Rattle.sync_messages.specs.declared.request.SyncRequest.{SyncRequest}
 use Rattle.sync_model.specs.Incremental.{number_of, sent_entry}
 use Rattle.sync_model.specs.Message.{SyncMessage}
-use Rattle.sync_model.specs.Stream.{Start, among, walk}
+use Rattle.sync_model.specs.Stream.{RefreshPiece, among, last_mark, refresh, later}
 use Rattle.sync_model.specs.Stream.Start.{DeletePhase, PresentPhase}
 use Rattle.sync_model.proofs.Histories.{ascends-state_of}
 use Rattle.sync_model.proofs.Incremental.{refresh_sent}
+use Rattle.sync_slices.specs.Slices.{SlicedRefresh, all_pieces}
 use Rattle.directory_writes.specs.Starting.{is_ours, prefix_of, prefix_of_cookie, start_at}
-use Rattle.sync_provider.specs.Accepting.{start_of_read, start_of_ask, persists_of_ask, answer_to}
+use Rattle.sync_provider.specs.Accepting.{start_of_read, start_of_ask, answer_to}
 use Rattle.directory_writes.specs.Directory.{DirectoryState, csns}
-use Rattle.sync_provider.specs.Law.{refresh_of, later_of, Delivery, delivered, all_delivered, Delivers, asked, SendsWhatWasTouched}
+use Rattle.sync_provider.specs.Law.{refresh_at, Delivery, delivered, all_delivered, Delivers, asked, SendsWhatWasTouched}
 use Rattle.sync_provider.specs.Machine.{ProviderState, ProviderCall, accepted}
-use Rattle.sync_provider.specs.Search.{SearchState, session_of, whole_walk, refresh_from, busy_end}
+use Rattle.sync_provider.specs.Search.{busy_end}
 use Rattle.sync_provider.specs.declared.searches.Accepted.TheVariants.{Opened}
 use Rattle.sync_provider.specs.declared.searches.SyncSearch.{SyncSearch}
-use Rattle.sync_provider.proofs.Followed.{delivers_its_stream}
-use Rattle.sync_provider.proofs.Kept.{opened_free}
+use Rattle.sync_provider.proofs.Followed.{delivers_its_stream, cuts_its_walk}
 use Rattle.sync_model.proofs.Groups.{heads, tails}
 use Rattle.directory_writes.proofs.Csns.{upto_low}
 
@@ -68,16 +66,6 @@ ask_low d ask = by (request_of ask.control) where
   by : (read : Result SyncRequest SyncFault) → IsLow d (number_of (start_of_read d read))
   by (Err fault) number is = let never : ⊥ = cc in absurd never
   by (Ok request) number is = asked_low d request.cookie number (sym (start_number d (prefix_of_cookie d request.cookie)) ∙ is)
-
--- ---- its refresh
-
-sent_from : (persists : Bool) (sid history : ℕ) (spec : Search) (start : Start) (count prefix : ℕ) (writes : List Write) → number_of start ≡ Some prefix → prefix ≤ count
-    → All (λ (entry : Entry). among entry.uuid (touched_over history writes prefix count) ≡ true)
-    (filter_map sent_entry (refresh_from (session_of persists sid history spec writes) start count))
-sent_from persists sid history spec start count prefix writes is low =
-    refresh_sent (session_of persists sid history spec writes) (λ number. ascends-state_of history writes number) start prefix count
-    (whole_walk (session_of persists sid history spec writes) start count) is low
-    (record { cut = append-nil (walk (session_of persists sid history spec writes) start count); rises = (omega arith, tt) })
 
 -- ---- as much of what is reported
 
@@ -116,19 +104,21 @@ notified_sends P true messages refresh later shows sends =
 
 -- what is sent whole was touched
 pub sends_what_was_touched : (p : ProviderState) (ask : SyncSearch) (number count : ℕ) (calls : List ProviderCall) → answer_to p.directory p.searches ask ≡ Opened number count
-    → SendsWhatWasTouched p ask number count calls
+    → SendsWhatWasTouched p ask number calls
 sends_what_was_touched p ask number count calls answered writes begins prefix is =
-    notified_sends (λ (entry : Entry). among entry.uuid (touched_over p.directory.history writes prefix count) ≡ true) t.over (all_delivered t)
-    (refresh_of p.directory s writes) (later_of p.directory s t.writes writes)
+    notified_sends Touched t.over (all_delivered t) (refresh r.operation r.start r.accepted pieces) (cond r.operation.persists (later r.operation (last_mark r.accepted pieces) (t.writes - last_mark r.accepted pieces)) [])
     (delivers_its_stream p ask number count calls answered writes begins)
-    (subst (λ n. Sends (λ (entry : Entry). among entry.uuid (touched_over p.directory.history writes prefix n) ≡ true) (refresh_of p.directory s writes)) (sym counted)
-    (sent_from (persists_of_ask ask) p.directory.sid p.directory.history (search_of ask.spec) (start_of_ask p.directory ask) (length p.directory.writes) prefix writes is (ask_low p.directory ask prefix is)))
+    (refresh_sent r.operation (λ n. ascends-state_of p.directory.history writes n) r.start prefix r.accepted pieces is (ask_low p.directory ask prefix is)
+    (cuts_its_walk p ask number count calls answered writes begins))
   where
-    s : SearchState
-    s = asked p ask
+    r : SlicedRefresh
+    r = refresh_at p.directory (asked p ask) writes
 
     t : Delivery
     t = delivered number (accepted p ask) calls
 
-    counted : count ≡ length p.directory.writes
-    counted = (opened_free p.directory p.searches ask number count answered).counted
+    pieces : List RefreshPiece
+    pieces = all_pieces r t.marks t.writes
+
+    Touched : Entry → Type 0
+    Touched entry = among entry.uuid (touched_over p.directory.history writes prefix (last_mark r.accepted pieces)) ≡ true

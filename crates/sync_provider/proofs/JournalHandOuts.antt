@@ -9,15 +9,16 @@ use Rattle.ldap_messages.specs.Whole.{MessageValue}
 use Rattle.sync_model.specs.Message.{SyncMessage}
 use Rattle.sync_model.specs.Message.SyncMessage.{AddOrModify, Delete, Present, IdSet, NewCookie, RefreshDelete, RefreshPresent, Done, Ignored}
 use Rattle.sync_model.proofs.Refresh.{none_from_false}
+use Rattle.directory_writes.specs.Directory.{DirectoryState}
 use Rattle.directory_writes.proofs.Keyed.{put_on}
 use Rattle.sync_provider.specs.Answering.{HandOutLeaves, DropLeaves}
-use Rattle.sync_provider.specs.HandingOut.{HandOut, search_at, turn_of, turn_of_message, turn_of_pending, turn_of_found, turn_at, has_message, is_closing, without_first, closed, handed_on, after_a_turn}
+use Rattle.sync_provider.specs.HandingOut.{HandOut, search_at, turn_of, turn_of_message, turn_of_pending, turn_of_found, turn_at, has_message, is_closing, closed, handed_on, after_a_turn}
 use Rattle.sync_provider.specs.HandingOut.HandOut.{Hands, Closes, Waits, Unknown}
 use Rattle.sync_provider.specs.Journal.{handed_at, JournalState, IsCounted, IsEnded, JournalledProvider, with_journal, followed_as, followed_in, port_state, HasJournal}
 use Rattle.sync_provider.specs.Law.{over_of}
 use Rattle.sync_provider.specs.Machine.{ProviderState, dropped}
 use Rattle.sync_provider.specs.Ports.{FollowedSearch, PortState, turn_in, after_turn_in, ended_in, dropped_in, HandOutReplies, DropReplies}
-use Rattle.sync_provider.specs.Search.{SearchState, pending, is_end}
+use Rattle.sync_provider.specs.Search.{SearchState, pending, advanced, is_end}
 use Rattle.sync_provider.specs.declared.handed.Handed.{Handed}
 use Rattle.sync_provider.specs.declared.handed.Handed.TheVariants as turns
 use Rattle.sync_provider.specs.declared.journal_note.ClosedSearch.{ClosedSearch}
@@ -41,9 +42,9 @@ closed_length (e ∷ es) k there = by (closed_length es k) (is_at (nat_cmp k) e.
         let more : length (closed es k) + 1 ≡ length es = rest (sym (ap (λ b. is_some (cond b (Some e.1) (search_at es k))) miss) ∙ there) in
         omega (arith, more)
 
-moved_length : (es : List (ℕ × SearchState)) (k : ℕ) (found : Option SearchState) → length (handed_on es k found) ≡ length es
-moved_length es k None = refl
-moved_length es k (Some s) = length-set_value (is_at (nat_cmp k)) es (without_first s)
+moved_length : (d : DirectoryState) (es : List (ℕ × SearchState)) (k : ℕ) (found : Option SearchState) → length (handed_on d es k found) ≡ length es
+moved_length d es k None = refl
+moved_length d es k (Some s) = length-set_value (is_at (nat_cmp k)) es (advanced d s)
 
 -- ---- turns
 
@@ -80,12 +81,12 @@ is_quiet (Some (Closes code message)) = false
 is_quiet (Some Waits) = true
 is_quiet (Some Unknown) = true
 
-quiet_searches : (es : List (ℕ × SearchState)) (k : ℕ) (t : Option HandOut) → is_quiet t ≡ true → after_a_turn es k t ≡ es
-quiet_searches es k None quiet = refl
-quiet_searches es k (Some (Hands message)) quiet = absurd (false≢true quiet)
-quiet_searches es k (Some (Closes code message)) quiet = absurd (false≢true quiet)
-quiet_searches es k (Some Waits) quiet = refl
-quiet_searches es k (Some Unknown) quiet = refl
+quiet_searches : (d : DirectoryState) (es : List (ℕ × SearchState)) (k : ℕ) (t : Option HandOut) → is_quiet t ≡ true → after_a_turn d es k t ≡ es
+quiet_searches d es k None quiet = refl
+quiet_searches d es k (Some (Hands message)) quiet = absurd (false≢true quiet)
+quiet_searches d es k (Some (Closes code message)) quiet = absurd (false≢true quiet)
+quiet_searches d es k (Some Waits) quiet = refl
+quiet_searches d es k (Some Unknown) quiet = refl
 
 quiet_port : (p : PortState) (k : ℕ) (found : Option FollowedSearch) (t : Option HandOut) → is_quiet t ≡ true → after_turn_in p k found t ≡ p
 quiet_port p k found None quiet = refl
@@ -134,7 +135,7 @@ module _ (p : ProviderState) (j : JournalState) (has : HasJournal p j) (number c
 -- ---- a hand-out
 
 -- where no more messages can be counted
-pub full_leaves : (p : ProviderState) (number : ℕ) → has_message (turn_at p.searches number) ≡ true → HandOutLeaves p number turns.NoMemory p
+pub full_leaves : (p : ProviderState) (number : ℕ) → has_message (turn_at p.directory p.searches number) ≡ true → HandOutLeaves p number turns.NoMemory p
 full_leaves p number there = record { turn = tt; memory = λ full. there; state = refl }
 
 module _ (old : JournalledProvider) (p : ProviderState) (j : JournalState) (seen : with_journal p j ≡ old) (has : HasJournal p j) (number : ℕ) (result : Handed) (new : ProviderState)
@@ -142,7 +143,7 @@ module _ (old : JournalledProvider) (p : ProviderState) (j : JournalState) (seen
   abbrev was : JournalledProvider
   was = with_journal p j
 
-  reported : (t : Option HandOut) → IfSome t (λ x. x ≡ turn_at p.searches number) → IfSome t (λ x. x ≡ turn_in p.directory (followed_in was number))
+  reported : (t : Option HandOut) → IfSome t (λ x. x ≡ turn_at p.directory p.searches number) → IfSome t (λ x. x ≡ turn_in p.directory (followed_in was number))
   reported None h = tt
   reported (Some x) h = h ∙ turn_is was has.journalled number
 
@@ -159,11 +160,11 @@ module _ (old : JournalledProvider) (p : ProviderState) (j : JournalState) (seen
         };
       })
 
-  turn_now : (turn : HandOut) → turn_of result ≡ Some turn → turn ≡ turn_at p.searches number
-  turn_now turn is = subst (λ t. IfSome t (λ x. x ≡ turn_at p.searches number)) is leaves.turn
+  turn_now : (turn : HandOut) → turn_of result ≡ Some turn → turn ≡ turn_at p.directory p.searches number
+  turn_now turn is = subst (λ t. IfSome t (λ x. x ≡ turn_at p.directory p.searches number)) is leaves.turn
 
-  left_by : (t : Option HandOut) → turn_of result ≡ t → new ≡ record p { searches = after_a_turn p.searches number t }
-  left_by t is = leaves.state ∙ ap (λ x. record p { searches = after_a_turn p.searches number x }) is
+  left_by : (t : Option HandOut) → turn_of result ≡ t → new ≡ record p { searches = after_a_turn p.directory p.searches number t }
+  left_by t is = leaves.state ∙ ap (λ x. record p { searches = after_a_turn p.directory p.searches number x }) is
 
   -- nothing
   pub quiet_seen : is_quiet (turn_of result) ≡ true → IsAnswered new j (HandOutReplies (port_state old) number result)
@@ -172,24 +173,24 @@ module _ (old : JournalledProvider) (p : ProviderState) (j : JournalState) (seen
       (ap (λ s. port_state (with_journal s j)) same ∙ sym (quiet_port (port_state was) number (followed_in was number) (turn_of result) quiet))
     where
       same : new ≡ p
-      same = leaves.state ∙ ap (λ es. record p { searches = es }) (quiet_searches p.searches number (turn_of result) quiet)
+      same = leaves.state ∙ ap (λ es. record p { searches = es }) (quiet_searches p.directory p.searches number (turn_of result) quiet)
 
   -- a message after which the search goes on
   module _ (whole : MessageValue) (is : turn_of result ≡ Some (Hands whole)) (after : JournalState) (noted : IsCounted j number after) where
-    message_by : (found : Option SearchState) → search_at p.searches number ≡ found → Hands whole ≡ turn_of_found found → new ≡ record p { searches = handed_on p.searches number found }
+    message_by : (found : Option SearchState) → search_at p.searches number ≡ found → Hands whole ≡ turn_of_found p.directory found → new ≡ record p { searches = handed_on p.directory p.searches number found }
         → IsPort (with_journal new after) (after_turn_in (port_state was) number (option_map (followed_as number (handed_at j.handed number)) found) (Some (Hands whole)))
     message_by None found turn left = absurd (never turn)
       where
         never : Hands whole ≡ Unknown → ⊥
         never e = cc
     message_by (Some s) found turn left =
-        let first : HandsFirst (pending s) = hands_first s.id (pending s) whole turn in
-        let made : with_journal new after ≡ record { state = record p { searches = put_on p.searches number (without_first s) }; events = j.events; handed = after.handed } =
+        let first : HandsFirst (pending p.directory s) = hands_first s.id (pending p.directory s) whole turn in
+        let made : with_journal new after ≡ record { state = record p { searches = put_on p.searches number (advanced p.directory s) }; events = j.events; handed = after.handed } =
         (λ i. record { state = left i; events = noted.events i; handed = after.handed }) in
         subst (λ v. IsPort v (after_turn_in (port_state was) number (Some (followed_as number (handed_at j.handed number) s)) (Some (Hands whole)))) (sym made)
         (message_goes was has.journalled number s found first.first first.rest first.is first.goes after.handed noted.own noted.others)
 
-    on : new ≡ record p { searches = handed_on p.searches number (search_at p.searches number) }
+    on : new ≡ record p { searches = handed_on p.directory p.searches number (search_at p.searches number) }
     on = left_by (Some (Hands whole)) is
 
     -- a message is the reply that is due there
@@ -197,7 +198,7 @@ module _ (old : JournalledProvider) (p : ProviderState) (j : JournalState) (seen
     message_seen =
         let goes : IsPort (with_journal new after) (after_turn_in (port_state was) number (followed_in was number) (Some (Hands whole))) =
         message_by (search_at p.searches number) refl (turn_now (Hands whole) is) on in
-        let many : length new.searches ≡ length p.searches = ap (λ s. length s.searches) on ∙ moved_length p.searches number (search_at p.searches number) in
+        let many : length new.searches ≡ length p.searches = ap (λ s. length s.searches) on ∙ moved_length p.directory p.searches number (search_at p.searches number) in
         answered after (record { journalled = goes.journalled; room = omega (arith, many, has.room, noted.spare) })
         (goes.port ∙ ap (after_turn_in (port_state was) number (followed_in was number)) (sym is))
 
@@ -205,7 +206,7 @@ module _ (old : JournalledProvider) (p : ProviderState) (j : JournalState) (seen
   module _ (code : ℤ) (whole : MessageValue) (is : turn_of result ≡ Some (Closes code whole)) (gone : is_closing (turn_of result) ≡ true → search_at new.searches number ≡ None)
       (count h : ℕ) (over : Option ℕ) (same : h ≡ handed_at j.handed number) (overflow : over ≡ cond (over_of (search_at p.searches number)) (Some h) None)
       (counted : count ≡ length new.directory.writes) (after : JournalState) (noted : IsEnded j count (record { number = number; handed = h + 1; over = over }) after) where
-    end_by : (found : Option SearchState) → search_at p.searches number ≡ found → Closes code whole ≡ turn_of_found found → over ≡ cond (over_of found) (Some h) None
+    end_by : (found : Option SearchState) → search_at p.searches number ≡ found → Closes code whole ≡ turn_of_found p.directory found → over ≡ cond (over_of found) (Some h) None
         → HasJournal new after
         × (port_state (with_journal new after) ≡ after_turn_in (port_state was) number (option_map (followed_as number (handed_at j.handed number)) found) (Some (Closes code whole)))
     end_by None found turn over_is = absurd (never turn)

@@ -132,10 +132,11 @@ log_limited_kept p j has limit = record {
   journalled = record {
     ordered = has.journalled.ordered;
     counted = λ n s found.
-        (limited_match s p.directory limit s (record { handed = handed_at j.handed n; over = s.over })
+        (limited_match s p.directory limit s (record { handed = handed_at j.handed n; marks = s.progress.marks; over = s.over })
         (record {
           same = record { id = refl; spec = refl; start = refl; accepted = refl; persists = refl };
           over = refl;
+          marks = refl;
           counted = has.journalled.counted n s found;
         })).counted;
     only = has.journalled.only;

@@ -1,7 +1,7 @@
 -- What a write, an opened search, a message that is handed out, and the end of a search make of a provider's journal,
 -- and of what it knows as a port.
 use Rattle.std.proofs.Common.{◌≡◌, ◌≢◌, ℕ, ◌+◌, Bool, true, false, cond, nat_eq, List, [], ◌∷◌, ◌++◌, length, Option, Some, None, refl, ap, sym, ◌∙◌, subst, arith, eqb-true, length-append}
-use Rattle.std.specs.Prelude.{Ok, is_some, option_map, ◌||◌, ◌&&◌}
+use Rattle.std.specs.Prelude.{Ok, is_some, option_map, ◌||◌}
 use Rattle.std.specs.BTreeMap.{insert_entry, is_at}
 use Rattle.std.specs.Ordering.{nat_cmp}
 use Rattle.std.proofs.lemmas.Bool.{eqb-false}
@@ -9,29 +9,30 @@ use Rattle.std.proofs.lemmas.Map.Made.{lookup-map_values}
 use Rattle.std.proofs.lemmas.Option.{none-some, same_Some}
 use Rattle.entry_tree.specs.declared.op.Write.{Write}
 use Rattle.sync_model.specs.Message.{SyncMessage}
+use Rattle.sync_slices.proofs.HandingOut.{marks_handed}
 use Rattle.directory_writes.specs.Directory.{DirectoryState, with_write}
 use Rattle.directory_writes.proofs.Keyed.{opened-same, opened-other, closed-other, put_on, put_on-same, put_on-other}
 use Rattle.sync_provider.specs.Accepting.{answer_to}
-use Rattle.sync_provider.specs.HandingOut.{search_at, without_first, closed}
+use Rattle.sync_provider.specs.HandingOut.{search_at, closed}
 use Rattle.sync_provider.specs.Journal.{handed_at, JournalledProvider, followed_as, followed_in, journal_in, port_state, IsJournalled}
 use Rattle.sync_provider.specs.Law.{HasHandedOut, asked, is_too_much}
 use Rattle.sync_provider.specs.Machine.{each_search_notified, after_judged}
-use Rattle.sync_provider.specs.Opened.{SearchOpening, opening_of_ask, opening_of_search, bare_search}
-use Rattle.sync_provider.specs.Ports.{FollowedSearch, PortState, is_open, followed_after, noted, opened_in, handed_in, ended_in}
+use Rattle.sync_provider.specs.Opened.{SearchOpening, opening_of_ask, opening_of_search}
+use Rattle.sync_provider.specs.Ports.{FollowedSearch, PortState, is_open, followed_after, noted, opened_in, marks_in, followed_on, handed_in, ended_in}
 use Rattle.sync_provider.specs.Queueing.{search_notified}
-use Rattle.sync_provider.specs.Search.{SearchState, pending, advanced, is_end}
+use Rattle.sync_provider.specs.Search.{SearchState, sliced, pending, advanced, is_end}
 use Rattle.sync_provider.specs.declared.journal_note.ClosedSearch.{ClosedSearch}
 use Rattle.sync_provider.specs.declared.journal_note.JournalNote.TheVariants as notes
 use Rattle.sync_provider.specs.declared.journal_note.SearchChange.TheVariants.{Opened, Closed}
 use Rattle.sync_provider.specs.declared.journal_note.SearchEvent.{SearchEvent}
 use Rattle.sync_provider.specs.declared.searches.Accepted.TheVariants as accepted
 use Rattle.sync_provider.specs.declared.searches.SyncSearch.{SyncSearch}
-use Rattle.sync_provider.proofs.SearchNotified.{IsSame, pending_open}
+use Rattle.sync_provider.proofs.SearchNotified.{IsSame, same_search, pending_open}
 use Rattle.sync_provider.proofs.Journals.{in_order_more, in_order_snoc, noted_write, noted_event, open_more, some_map}
 use Rattle.sync_provider.proofs.Kept.{opened_free}
 use Rattle.sync_provider.proofs.Overflows.{Matches, search_notified_match, asked_matches}
-use Rattle.sync_provider.proofs.Places.{IsNext, next_place}
-use Rattle.sync_provider.proofs.Streams.{not_over, advanced_same}
+use Rattle.sync_provider.proofs.Places.{begins_with_own, IsNext, next_place, next_counted}
+use Rattle.sync_provider.proofs.Streams.{not_over}
 
 -- the journal is kept, and this is what the port knows
 pub record IsPort (v : JournalledProvider) (p : PortState) : Type 0 where
@@ -61,18 +62,14 @@ module _ (v : JournalledProvider) (is : IsJournalled v) (w : Write) where
   abbrev after_write : JournalledProvider
   after_write = record v { state = after_judged v.state (Ok w) }
 
-  -- the same search without its messages
-  abbrev bare : ℕ → SearchState → SearchState
-  bare n s = bare_search (opening_of_search n s)
-
   abbrev over_then : ℕ → SearchState → Bool
-  over_then n s = s.over || (s.persists && is_too_much limit d (bare n s) w (handed_at v.handed n))
+  over_then n s = s.over || is_too_much limit d s w s.progress.marks (handed_at v.handed n)
 
   matched : (n : ℕ) (s : SearchState) → search_at v.state.searches n ≡ Some s
-      → Matches (bare n s) (with_write d w) (search_notified limit d w s) (record { handed = handed_at v.handed n; over = over_then n s })
+      → Matches s (with_write d w) (search_notified limit d w s) (record { handed = handed_at v.handed n; marks = s.progress.marks; over = over_then n s })
   matched n s found =
-      search_notified_match (bare n s) limit d w s (record { handed = handed_at v.handed n; over = s.over })
-      (record { same = record { id = refl; spec = refl; start = refl; accepted = refl; persists = refl }; over = refl; counted = is.counted n s found })
+      search_notified_match s limit d w s (record { handed = handed_at v.handed n; marks = s.progress.marks; over = s.over })
+      (record { same = same_search s s.progress s.over; over = refl; marks = refl; counted = is.counted n s found })
 
   seen : (n : ℕ) → search_at (each_search_notified limit d w v.state.searches) n ≡ option_map (search_notified limit d w) (search_at v.state.searches n)
   seen n = lookup-map_values (search_notified limit d w) (is_at (nat_cmp n)) v.state.searches
@@ -85,9 +82,10 @@ module _ (v : JournalledProvider) (is : IsJournalled v) (w : Write) where
           ≡ option_map (followed_after limit d w) (option_map (followed_as n (handed_at v.handed n)) found)
       by None none = refl
       by (Some s) found =
-          let opened : opening_of_search n (search_notified limit d w s) ≡ opening_of_search n s = same_opening n (bare n s) (search_notified limit d w s) (matched n s found).same in
+          let opened : opening_of_search n (search_notified limit d w s) ≡ opening_of_search n s = same_opening n s (search_notified limit d w s) (matched n s found).same in
           let over : over_then n s ≡ (search_notified limit d w s).over = (matched n s found).over in
-          λ i. Some (record { opened = opened i; handed = handed_at v.handed n; over = sym over i })
+          let marks : s.progress.marks ≡ (search_notified limit d w s).progress.marks = (matched n s found).marks in
+          λ i. Some (record { opened = opened i; handed = handed_at v.handed n; marks = sym marks i; over = sym over i })
 
   counted_write : (n : ℕ) (s : SearchState) → search_at (each_search_notified limit d w v.state.searches) n ≡ Some s → s.over ≡ false → HasHandedOut (with_write d w) s (handed_at v.handed n)
   counted_write n s there = by (search_at v.state.searches n) refl (sym (seen n) ∙ there)
@@ -192,6 +190,9 @@ module _ (v : JournalledProvider) (is : IsJournalled v) (ask : SyncSearch) (numb
   begun : (s : SearchState) → Some search ≡ Some s → s.over ≡ false → HasHandedOut v.state.directory s 0
   begun s same = subst (λ x. x.over ≡ false → HasHandedOut v.state.directory x 0) (same_Some search s same) (asked_matches v.state ask).counted
 
+  first_followed : followed_as number 0 search ≡ record { opened = opening; handed = 0; marks = opening.accepted ∷ []; over = false }
+  first_followed = λ i. record { opened = opening; handed = 0; marks = sym (asked_matches v.state ask).marks i; over = false }
+
   -- it follows the search
   pub open_goes : IsPort after_open (opened_in (port_state v) opening)
   open_goes = record {
@@ -209,22 +210,19 @@ module _ (v : JournalledProvider) (is : IsJournalled v) (ask : SyncSearch) (numb
       directory = v.state.directory;
       queue_limit = v.state.queue_limit;
       journal = journal i;
-      followed = λ n. followed_changed v is number (Some search) 0 searches handed here there own others after_open.events n i;
+      followed = λ n.
+          (followed_changed v is number (Some search) 0 searches handed here there own others after_open.events n
+          ∙ ap (λ x. cond (nat_eq n number) (Some x) (followed_in v n)) first_followed) i;
     };
   }
 
 -- ---- a message is handed out
 
-advanced_over : (s : SearchState) (rest due : List SyncMessage) → (advanced s rest due).over ≡ s.over
-advanced_over s (m ∷ rest) due = refl
-advanced_over s [] (m ∷ due) = refl
-advanced_over s [] [] = refl
-
 module _ (v : JournalledProvider) (is : IsJournalled v) (number : ℕ) (s : SearchState) (found : search_at v.state.searches number ≡ Some s)
-    (m : SyncMessage) (ms : List SyncMessage) (first : pending s ≡ m ∷ ms) (goes : is_end m ≡ false) (handed : List ℕ)
+    (m : SyncMessage) (ms : List SyncMessage) (first : pending v.state.directory s ≡ m ∷ ms) (goes : is_end m ≡ false) (handed : List ℕ)
     (own : handed_at handed number ≡ handed_at v.handed number + 1) (others : (n : ℕ) → n ≢ number → handed_at handed n ≡ handed_at v.handed n) where
   abbrev left : SearchState
-  left = without_first s
+  left = advanced v.state.directory s
 
   abbrev moved : List (ℕ × SearchState)
   moved = put_on v.state.searches number left
@@ -241,13 +239,18 @@ module _ (v : JournalledProvider) (is : IsJournalled v) (number : ℕ) (s : Sear
   moved_there : (n : ℕ) → n ≢ number → search_at moved n ≡ search_at v.state.searches n
   moved_there n far = put_on-other v.state.searches number n left far
 
+  open_now : s.over ≡ false
+  open_now = not_over v.state.directory s m ms first goes
+
+  was : HasHandedOut v.state.directory s (handed_at v.handed number)
+  was = is.counted number s found open_now
+
   one_more : (after : SearchState) → Some left ≡ Some after → after.over ≡ false → HasHandedOut v.state.directory after (handed_at v.handed number + 1)
   one_more after same off =
-      let was : HasHandedOut v.state.directory s (handed_at v.handed number) = is.counted number s found (not_over s m ms first goes) in
-      let next : IsNext v.state.directory left (length was.now.handed + length was.now.handed_later) =
-      next_place v.state.directory s was.now m ms (sym (pending_open s (not_over s m ms first goes)) ∙ first) in
+      let next : IsNext v.state.directory left (was.now.handed ++ was.now.handed_later) m =
+      next_place v.state.directory s was.now m ms (sym (pending_open v.state.directory s open_now) ∙ first) in
       subst (λ x. HasHandedOut v.state.directory x (handed_at v.handed number + 1)) (same_Some left after same)
-      (record { now = next.now; counted = ap (λ n. n + 1) was.counted ∙ sym next.counted })
+      (record { now = next.now; counted = ap (λ n. n + 1) was.counted ∙ sym (next_counted v.state.directory left was.now.handed was.now.handed_later m next) })
 
   still_open : (n : ℕ) → cond (nat_eq n number) true (is_open (journal_in v) n) ≡ is_open (journal_in v) n
   still_open n = by (nat_eq n number) refl
@@ -256,12 +259,13 @@ module _ (v : JournalledProvider) (is : IsJournalled v) (number : ℕ) (s : Sear
       by true hit = ap is_some (sym found) ∙ is.only number ∙ ap (is_open (journal_in v)) (sym (eqb-true n number hit))
       by false far = refl
 
-  handed_over : followed_as number (handed_at v.handed number + 1) left ≡ record f { handed = f.handed + 1 }
-  handed_over = λ i. record {
-    opened = same_opening number s left (advanced_same s s.rest s.due) i;
-    handed = handed_at v.handed number + 1;
-    over = advanced_over s s.rest s.due i;
-  }
+  marks_then : left.progress.marks ≡ marks_in v.state.directory f
+  marks_then =
+      marks_handed (sliced v.state.directory s) (length v.state.directory.writes) s.progress was.now.handed was.now.handed_later (handed_at v.handed number)
+      (was.now.place v.state.directory.writes (begins_with_own v.state.directory)) was.counted
+
+  handed_over : followed_as number (handed_at v.handed number + 1) left ≡ followed_on v.state.directory f
+  handed_over = λ i. record { opened = opening_of_search number s; handed = handed_at v.handed number + 1; marks = marks_then i; over = s.over }
 
   -- it counts the message
   pub message_goes : IsPort after_message (handed_in (port_state v) number f)

@@ -23,8 +23,8 @@ use Rattle.sync_provider.proofs.Turns.{none_turn}
 -- ---- what is pending of a search
 
 -- where nothing is pending there is no message
-pub none_has_message : (s : SearchState) → s.over ≡ false → s.rest ≡ [] → slice_get s.due 0 ≡ None → has_message (turn_of_pending s.id (pending s)) ≡ false
-none_has_message s off none first = ap has_message (none_turn s off none first)
+pub none_has_message : (d : DirectoryState) (s : SearchState) → s.over ≡ false → s.progress.left ≡ [] → s.progress.rest ≡ [] → slice_get s.progress.due 0 ≡ None → has_message (turn_of_pending s.id (pending d s)) ≡ false
+none_has_message d s off settled none first = ap has_message (none_turn d s off settled none first)
 
 -- ---- a provider by itself sees no entries of other ports
 

@@ -15,11 +15,11 @@ use Rattle.directory_writes.specs.Directory.{DirectoryState}
 use Rattle.directory_writes.proofs.Keyed.{opened-same, opened-other, closed-other, put_on-same, put_on-other}
 use Rattle.sync_provider.specs.Accepting as accepting
 use Rattle.sync_provider.specs.Accepting.{is_free, numbers_from, free_number, request_code, refused_or_opened, numbered, answer_to_request, answer_to}
-use Rattle.sync_provider.specs.HandingOut.{HandOut, turn_of_message, turn_of_pending, turn_of_found, turn_at, search_at, without_first, handed_on, after_turn}
+use Rattle.sync_provider.specs.HandingOut.{HandOut, turn_of_message, turn_of_pending, turn_of_found, turn_at, search_at, handed_on, after_turn}
 use Rattle.sync_provider.specs.HandingOut.HandOut.{Hands, Closes, Waits, Unknown}
 use Rattle.sync_provider.specs.Law.{asked}
 use Rattle.sync_provider.specs.Machine.{ProviderState, accepted}
-use Rattle.sync_provider.specs.Search.{SearchState, pending, is_end}
+use Rattle.sync_provider.specs.Search.{SearchState, pending, advanced, is_end}
 use Rattle.sync_provider.specs.declared.searches.Accepted.{Accepted}
 use Rattle.sync_provider.specs.declared.searches.Accepted.TheVariants.{Opened, Refused, NoMemory}
 use Rattle.sync_provider.specs.declared.searches.SyncSearch.{SyncSearch}
@@ -105,16 +105,16 @@ answered_other d es ask (Opened other count) is number s found = opened-other es
 answered_other d es ask (Refused code) is number s found = found
 answered_other d es ask NoMemory is number s found = found
 
-on_other : (es : List (ℕ × SearchState)) (k q : ℕ) (found : Option SearchState) → q ≢ k → search_at (handed_on es k found) q ≡ search_at es q
-on_other es k q None far = refl
-on_other es k q (Some s) far = put_on-other es k q (without_first s) far
+on_other : (d : DirectoryState) (es : List (ℕ × SearchState)) (k q : ℕ) (found : Option SearchState) → q ≢ k → search_at (handed_on d es k found) q ≡ search_at es q
+on_other d es k q None far = refl
+on_other d es k q (Some s) far = put_on-other es k q (advanced d s) far
 
 -- a hand-out leaves the other searches
-pub turn_other : (es : List (ℕ × SearchState)) (k q : ℕ) (turn : HandOut) → q ≢ k → search_at (after_turn es k turn) q ≡ search_at es q
-turn_other es k q (Hands message) far = on_other es k q (search_at es k) far
-turn_other es k q (Closes code message) far = closed-other es k q far
-turn_other es k q Waits far = refl
-turn_other es k q Unknown far = refl
+pub turn_other : (d : DirectoryState) (es : List (ℕ × SearchState)) (k q : ℕ) (turn : HandOut) → q ≢ k → search_at (after_turn d es k turn) q ≡ search_at es q
+turn_other d es k q (Hands message) far = on_other d es k q (search_at es k) far
+turn_other d es k q (Closes code message) far = closed-other es k q far
+turn_other d es k q Waits far = refl
+turn_other d es k q Unknown far = refl
 
 -- ---- its own turn
 
@@ -131,22 +131,22 @@ hands id (Done code control) h = absurd (true≢false h)
 hands id Ignored h = refl
 
 -- where nothing is pending
-pub waiting_turn : (es : List (ℕ × SearchState)) (number : ℕ) (s : SearchState) → search_at es number ≡ Some s → pending s ≡ []
-    → search_at (after_turn es number (turn_at es number)) number ≡ Some s
-waiting_turn es number s found none =
-    ap (λ o. search_at (after_turn es number (turn_of_found o)) number) found
-    ∙ ap (λ ms. search_at (after_turn es number (turn_of_pending s.id ms)) number) none
+pub waiting_turn : (d : DirectoryState) (es : List (ℕ × SearchState)) (number : ℕ) (s : SearchState) → search_at es number ≡ Some s → pending d s ≡ []
+    → search_at (after_turn d es number (turn_at d es number)) number ≡ Some s
+waiting_turn d es number s found none =
+    ap (λ o. search_at (after_turn d es number (turn_of_found d o)) number) found
+    ∙ ap (λ ms. search_at (after_turn d es number (turn_of_pending s.id ms)) number) none
     ∙ found
 
 -- where a message is pending after which it goes on
-pub next_turn : (es : List (ℕ × SearchState)) (number : ℕ) (s : SearchState) (m : SyncMessage) (rest : List SyncMessage) → search_at es number ≡ Some s → pending s ≡ m ∷ rest → is_end m ≡ false
-    → search_at (after_turn es number (turn_at es number)) number ≡ Some (without_first s)
-next_turn es number s m rest found first goes =
-    ap (λ o. search_at (after_turn es number (turn_of_found o)) number) found
-    ∙ ap (λ ms. search_at (after_turn es number (turn_of_pending s.id ms)) number) first
-    ∙ ap (λ turn. search_at (after_turn es number turn) number) (hands s.id m goes)
-    ∙ ap (λ o. search_at (handed_on es number o) number) found
-    ∙ put_on-same es number (without_first s) s found
+pub next_turn : (d : DirectoryState) (es : List (ℕ × SearchState)) (number : ℕ) (s : SearchState) (m : SyncMessage) (rest : List SyncMessage)
+    → search_at es number ≡ Some s → pending d s ≡ m ∷ rest → is_end m ≡ false → search_at (after_turn d es number (turn_at d es number)) number ≡ Some (advanced d s)
+next_turn d es number s m rest found first goes =
+    ap (λ o. search_at (after_turn d es number (turn_of_found d o)) number) found
+    ∙ ap (λ ms. search_at (after_turn d es number (turn_of_pending s.id ms)) number) first
+    ∙ ap (λ turn. search_at (after_turn d es number turn) number) (hands s.id m goes)
+    ∙ ap (λ o. search_at (handed_on d es number o) number) found
+    ∙ put_on-same es number (advanced d s) s found
 
 -- ---- the search that is asked for
 

@@ -1,6 +1,7 @@
 -- Lemmas of the crate.
 pub mod AddedWrites
 pub mod Advanced
+pub mod Agreeing
 pub mod Asking
 pub mod Ascending
 pub mod AtPlace
@@ -11,7 +12,9 @@ pub mod CommittedEach
 pub mod Comparisons
 pub mod Copying
 pub mod CountedCalls
+pub mod Decided
 pub mod Deciding
+pub mod Ended
 pub mod Filling
 pub mod Followed
 pub mod FreeNumbers
@@ -29,6 +32,7 @@ pub mod Journals
 pub mod Judged
 pub mod Kept
 pub mod Known
+pub mod Leaving
 pub mod Longer
 pub mod Looking
 pub mod Nearer

@@ -1,7 +1,7 @@
--- A refresh in one piece, over a directory and over each longer history.
-use Rattle.std.proofs.Common.{◌≡◌, ◌≤◌, ℕ, ◌+◌, ◌-◌, Bool, List, [], ◌∷◌, ◌++◌, length, refl, sym, ap, ◌∙◌, arith}
+-- A refresh that is decided at once, and what a longer history leaves of it.
+use Rattle.std.proofs.Common.{◌≡◌, ◌≤◌, ℕ, ◌+◌, ◌-◌, Bool, List, [], ◌∷◌, ◌++◌, length, take, refl, sym, ap, ◌∙◌, arith, append_assoc}
 use Rattle.std.specs.List.{flat_map}
-use Rattle.std.proofs.lemmas.List.{append-nil, take-append-le}
+use Rattle.std.proofs.lemmas.List.{append-nil, take-append-le, take_all, drop_all}
 use Rattle.entry_tree.specs.declared.entry.Entry.{Entry}
 use Rattle.entry_tree.specs.declared.op.Write.{Write}
 use Rattle.csn_cookie.specs.Csn.{start}
@@ -11,11 +11,12 @@ use Rattle.entry_tree.specs.Selection.{Search, select}
 use Rattle.entry_tree.specs.State.{entry_at}
 use Rattle.entry_tree.specs.Touched.{identities, touched}
 use Rattle.sync_model.specs.Message.{CookieText, SyncMessage}
-use Rattle.sync_model.specs.Stream.{SyncOperation, Start, WalkDecision, among, content_after, is_delete_phase, walk, is_sent, decided, decide, gathered, end_of, after_walk, late_uuids, notified_all, group}
+use Rattle.sync_model.specs.Stream.{SyncOperation, Start, RefreshPiece, WalkDecision, among, content_after, is_delete_phase, walk, is_sent, decided, decide, last_mark, late_uuids, whole, left_over, rest_of, gathered, end_of, after_walk, notified_all, group, stream}
 use Rattle.sync_model.specs.Stream.Start.{InitialContent, DeletePhase, PresentPhase}
 use Rattle.sync_model.proofs.Steps.{over_none}
+use Rattle.sync_slices.specs.Slices.{SlicedRefresh, SliceProgress, rest_piece, stream_upto, decisions_now, ended_by, first_progress}
 use Rattle.directory_writes.specs.Directory.{cookie_at, last_csn}
-use Rattle.sync_provider.specs.Search.{cookie_after, session_of, refresh_from}
+use Rattle.sync_provider.specs.Search.{cookie_after, session_of, whole_walk, refresh_from, sliced_from, settled_progress}
 use Rattle.directory_writes.proofs.Notified.{Agree, agree-longer, over-agree_upto}
 
 no_late : (operation : SyncOperation) (count : ℕ) → late_uuids operation count count ≡ []
@@ -35,6 +36,51 @@ pub refresh_from-is : (operation : SyncOperation) (start : Start) (count : ℕ) 
 refresh_from-is operation start count =
     ap (λ late. gathered (is_delete_phase start) (decided_all operation start count ++ []) ++ after_walk operation (is_delete_phase start) count late) (no_late operation count)
     ∙ ap (notified_of operation start count) (append-nil (decided_all operation start count))
+
+-- it is all that is pending where all pieces are decided at the acceptance
+pub first_settled : (operation : SyncOperation) (start : Start) (count : ℕ)
+    → first_progress (sliced_from operation start count) ≡ settled_progress count (notified_of operation start count (decided_all operation start count)) []
+first_settled operation start count =
+    (λ i. after (drop_all (length uuids + 1) uuids (omega arith) i) (take_all (length uuids + 1) uuids (omega arith) i))
+    ∙ ap (λ messages. settled_progress count messages [])
+    (sym (append_assoc (whole deletes [] decisions) (rest_of deletes (left_over [] decisions)) (end_of operation.persists deletes (operation.cookies count) ∷ [])))
+  where
+    r : SlicedRefresh
+    r = sliced_from operation start count
+
+    uuids : List ℕ
+    uuids = walk operation start count
+
+    deletes : Bool
+    deletes = is_delete_phase start
+
+    decisions : List WalkDecision
+    decisions = decided_all operation start count
+
+    after : (left taken : List ℕ) → SliceProgress
+    after left taken =
+        ended_by left r count
+        (record {
+          marks = count ∷ [];
+          left = left;
+          names = left_over [] (decisions_now r count taken);
+          changed = [];
+          rest = whole deletes [] (decisions_now r count taken);
+          due = [];
+        })
+
+-- with all its pieces decided at its acceptance a search sends its refresh in one piece
+pub stream_whole : (operation : SyncOperation) (start : Start) (count now : ℕ)
+    → stream_upto (sliced_from operation start count) (count ∷ []) now ≡ stream operation start count (whole_walk operation start count) (now - count)
+stream_whole operation start count now =
+    ap (λ left. sent_in (record { uuids = take (length uuids + 1) uuids; mark = count } ∷ rest_piece now left)) (drop_all (length uuids + 1) uuids (omega arith))
+    ∙ ap (λ us. sent_in (record { uuids = us; mark = count } ∷ [])) (take_all (length uuids + 1) uuids (omega arith))
+  where
+    uuids : List ℕ
+    uuids = walk operation start count
+
+    sent_in : List RefreshPiece → List SyncMessage
+    sent_in pieces = stream operation start count pieces (now - last_mark count pieces)
 
 -- ---- two histories that agree
 

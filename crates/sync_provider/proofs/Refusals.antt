@@ -52,9 +52,9 @@ accept_counts old new ask accepted.NoMemory is = is.state
 
 hand_out_counts : (old new : ProviderState) (number : ℕ) (result : Handed) → HandOutLeaves old number result new → new ≡ run old (calls_of_handed number result)
 hand_out_counts old new number (handed.Message message) is =
-    is.state ∙ ap (λ turn. record old { searches = handing.after_turn old.searches number turn }) is.turn
+    is.state ∙ ap (λ turn. record old { searches = handing.after_turn old.directory old.searches number turn }) is.turn
 hand_out_counts old new number (handed.Ended code message) is =
-    is.state ∙ ap (λ turn. record old { searches = handing.after_turn old.searches number turn }) is.turn
+    is.state ∙ ap (λ turn. record old { searches = handing.after_turn old.directory old.searches number turn }) is.turn
 hand_out_counts old new number handed.Nothing is = is.state
 hand_out_counts old new number handed.NoSuchSearch is = is.state
 hand_out_counts old new number handed.NoMemory is = is.state

@@ -8,12 +8,12 @@ use Rattle.std.proofs.lemmas.Map.Made.{lookup-map_values}
 use Rattle.entry_tree.specs.declared.op.Op.{Op}
 use Rattle.entry_tree.specs.declared.op.Op.TheVariants.{Commit}
 use Rattle.entry_tree.specs.declared.op.Write.{Write}
-use Rattle.directory_writes.specs.Directory.{judged}
+use Rattle.directory_writes.specs.Directory.{DirectoryState, judged}
 use Rattle.directory_writes.proofs.Keyed.{opened-same, opened-other, closed-other, put_on-same}
 use Rattle.sync_provider.specs.Accepting as accepting
 use Rattle.sync_provider.specs.Accepting.{answer_to}
 use Rattle.sync_provider.specs.Committing.{commit_refusal}
-use Rattle.sync_provider.specs.HandingOut.{HandOut, turn_of_pending, turn_of_found, turn_at, search_at, without_first, handed_on, after_turn}
+use Rattle.sync_provider.specs.HandingOut.{HandOut, turn_of_pending, turn_of_found, turn_at, search_at, handed_on, after_turn}
 use Rattle.sync_provider.specs.HandingOut.HandOut.{Hands, Closes, Waits, Unknown}
 use Rattle.sync_provider.specs.Law.{asked}
 use Rattle.sync_provider.specs.Machine.{ProviderState, ProviderCall, searches_after, after_judged, judged_by, after_commit, called}
@@ -21,7 +21,7 @@ use Rattle.sync_provider.specs.Machine.ProviderCall.{Writes, Commits, Accepts, H
 use Rattle.sync_provider.specs.Placing.{Ascends}
 use Rattle.sync_provider.specs.Queueing.{search_notified}
 use Rattle.sync_provider.specs.Returning.{number_of_answer, number_of_call}
-use Rattle.sync_provider.specs.Search.{SearchState, pending}
+use Rattle.sync_provider.specs.Search.{SearchState, pending, advanced}
 use Rattle.sync_provider.specs.declared.searches.Accepted.{Accepted}
 use Rattle.sync_provider.specs.declared.searches.Accepted.TheVariants.{Opened, Refused, NoMemory}
 use Rattle.sync_provider.specs.declared.writing.CommitFault.{CommitFault}
@@ -83,42 +83,42 @@ call_other p (Accepts ask) number n is far = by (answer_to p.directory p.searche
     by (Opened other writes) is = opened-other p.searches other n (asked p ask) (λ same. far (same ∙ inner other number is))
     by (Refused code) is = refl
     by NoMemory is = refl
-call_other p (HandsOut other) number n is far = turn_other p.searches other n (turn_at p.searches other) (λ same. far (same ∙ inner other number is))
+call_other p (HandsOut other) number n is far = turn_other p.directory p.searches other n (turn_at p.directory p.searches other) (λ same. far (same ∙ inner other number is))
 call_other p (Drops other) number n is far = closed-other p.searches other n (λ same. far (same ∙ inner other number is))
 call_other p (SetsLogLimit limit) number n is far = absurd (never number is)
 call_other p (SetsQueueLimit limit) number n is far = absurd (never number is)
 
 -- ---- a call of this search
 
-abbrev handed_by : SearchState → HandOut → Option SearchState
-handed_by s (Hands message) = Some (without_first s)
-handed_by s (Closes code message) = None
-handed_by s Waits = Some s
-handed_by s Unknown = Some s
+abbrev handed_by : DirectoryState → SearchState → HandOut → Option SearchState
+handed_by d s (Hands message) = Some (advanced d s)
+handed_by d s (Closes code message) = None
+handed_by d s Waits = Some s
+handed_by d s Unknown = Some s
 
-abbrev handed_from : Option SearchState → Option SearchState
-handed_from None = None
-handed_from (Some s) = handed_by s (turn_of_pending s.id (pending s))
+abbrev handed_from : DirectoryState → Option SearchState → Option SearchState
+handed_from d None = None
+handed_from d (Some s) = handed_by d s (turn_of_pending s.id (pending d s))
 
-own_turn : (es : List (ℕ × SearchState)) (k : ℕ) → Ascends 0 es → search_at (after_turn es k (turn_at es k)) k ≡ handed_from (search_at es k)
-own_turn es k ascends = by (search_at es k) refl
+own_turn : (d : DirectoryState) (es : List (ℕ × SearchState)) (k : ℕ) → Ascends 0 es → search_at (after_turn d es k (turn_at d es k)) k ≡ handed_from d (search_at es k)
+own_turn d es k ascends = by (search_at es k) refl
   where
-    of : (s : SearchState) → search_at es k ≡ Some s → (turn : HandOut) → search_at (after_turn es k turn) k ≡ handed_by s turn
-    of s is (Hands message) = ap (λ found. search_at (handed_on es k found) k) is ∙ put_on-same es k (without_first s) s is
+    of : (s : SearchState) → search_at es k ≡ Some s → (turn : HandOut) → search_at (after_turn d es k turn) k ≡ handed_by d s turn
+    of s is (Hands message) = ap (λ found. search_at (handed_on d es k found) k) is ∙ put_on-same es k (advanced d s) s is
     of s is (Closes code message) = gone es 0 k ascends
     of s is Waits = is
     of s is Unknown = is
 
-    by : (found : Option SearchState) → search_at es k ≡ found → search_at (after_turn es k (turn_of_found found)) k ≡ handed_from found
+    by : (found : Option SearchState) → search_at es k ≡ found → search_at (after_turn d es k (turn_of_found d found)) k ≡ handed_from d found
     by None is = is
-    by (Some s) is = of s is (turn_of_pending s.id (pending s))
+    by (Some s) is = of s is (turn_of_pending s.id (pending d s))
 
 -- the search of a call's number after it, by the rest of the provider and the search before
 abbrev own_after : ProviderState → ProviderCall → Option SearchState → Option SearchState
 own_after p (Writes op now) found = found
 own_after p (Commits puts drops now) found = found
 own_after p (Accepts ask) found = Some (asked p ask)
-own_after p (HandsOut number) found = handed_from found
+own_after p (HandsOut number) found = handed_from p.directory found
 own_after p (Drops number) found = None
 own_after p (SetsLogLimit limit) found = found
 own_after p (SetsQueueLimit limit) found = found
@@ -135,7 +135,7 @@ own_is p (Accepts ask) number ascends is = by (answer_to p.directory p.searches 
     by (Refused code) is = absurd (never number is)
     by NoMemory is = absurd (never number is)
 own_is p (HandsOut other) number ascends is =
-    subst (λ n. search_at (after_turn p.searches other (turn_at p.searches other)) n ≡ handed_from (search_at p.searches n)) (inner other number is) (own_turn p.searches other ascends)
+    subst (λ n. search_at (after_turn p.directory p.searches other (turn_at p.directory p.searches other)) n ≡ handed_from p.directory (search_at p.searches n)) (inner other number is) (own_turn p.directory p.searches other ascends)
 own_is p (Drops other) number ascends is =
     subst (λ n. search_at (called p (Drops other)).searches n ≡ None) (inner other number is) (gone p.searches 0 other ascends)
 own_is p (SetsLogLimit limit) number ascends is = absurd (never number is)
@@ -214,13 +214,13 @@ call_ascends p (Accepts ask) ascends = by (answer_to p.directory p.searches ask)
     by (Opened number writes) = ascends-opened p.searches 0 number (asked p ask) ascends (omega arith)
     by (Refused code) = ascends
     by NoMemory = ascends
-call_ascends p (HandsOut number) ascends = by (turn_at p.searches number)
+call_ascends p (HandsOut number) ascends = by (turn_at p.directory p.searches number)
   where
-    on : (found : Option SearchState) → Ascends 0 (handed_on p.searches number found)
+    on : (found : Option SearchState) → Ascends 0 (handed_on p.directory p.searches number found)
     on None = ascends
-    on (Some s) = ascends-put_on p.searches 0 number (without_first s) ascends
+    on (Some s) = ascends-put_on p.searches 0 number (advanced p.directory s) ascends
 
-    by : (turn : HandOut) → Ascends 0 (after_turn p.searches number turn)
+    by : (turn : HandOut) → Ascends 0 (after_turn p.directory p.searches number turn)
     by (Hands message) = on (search_at p.searches number)
     by (Closes code message) = ascends-closed p.searches 0 number ascends
     by Waits = ascends

@@ -47,7 +47,7 @@ module _ (operation : SyncOperation) (start : Start) (opened count : ℕ) where
   -- of a search that goes on
   lasting : operation.persists ≡ true → Each IsHands Messages
   lasting goes =
-      each_weaker GoesOn IsHands Messages (hands 1) (stream_goes operation start opened count goes)
+      each_weaker GoesOn IsHands Messages (hands 1) (stream_goes operation start opened (whole_walk operation start opened) count goes)
 
   -- of one that ends
   ending : operation.persists ≡ false → (earlier rest : List SyncMessage) (m : SyncMessage) → Next Part earlier Last m rest → IsHanded operation.persists m rest ⊎ IsClosing operation.persists m rest

@@ -14,14 +14,17 @@ use Rattle.sync_model.specs.Message.{CookieText, SyncMessage}
 use Rattle.sync_model.specs.Message.SyncMessage.{AddOrModify, Delete, Present, IdSet, NewCookie, RefreshDelete, RefreshPresent, Done, Ignored}
 use Rattle.sync_model.specs.Stream.{end_of}
 use Rattle.sync_wire.specs.Sending.{sent}
+use Rattle.sync_slices.specs.Slices.{SliceProgress, coming_by, ready_from, without_first}
+use Rattle.directory_writes.specs.Directory.{DirectoryState}
 use Rattle.directory_writes.proofs.Keyed.{kept_at, closed_at, put_on}
-use Rattle.sync_provider.specs.HandingOut.{HandOut, turn_of_message, turn_of_pending, turn_at, has_message, search_at, is_closing, after_own_turn, without_first, handed_on, after_a_turn}
+use Rattle.sync_provider.specs.HandingOut.{HandOut, turn_of_message, turn_of_pending, turn_at, has_message, search_at, is_closing, after_own_turn, handed_on, after_a_turn}
 use Rattle.sync_provider.specs.HandingOut.HandOut.{Hands, Closes, Waits, Unknown}
-use Rattle.sync_provider.specs.Search.{SearchState, busy_end, pending, advanced, is_end, message_of, messages_of, first_of}
+use Rattle.sync_provider.specs.Search.{SearchState, sliced, busy_end, pending, advanced, is_end, message_of, messages_of, first_of}
 use Rattle.sync_provider.specs.Staging.{HeldSearch, searches_of}
 use Rattle.sync_provider.specs.declared.refresh_item.RefreshItem.{RefreshItem}
 use Rattle.sync_provider.specs.declared.refresh_item.RefreshItem.TheVariants as part
 use Rattle.sync_provider.proofs.Kept.{hands}
+use Rattle.sync_provider.proofs.SearchNotified.{pending_over}
 use Rattle.sync_provider.proofs.Held.{search_found, turn_found, held_closed, held_put}
 
 -- ---- what is left of a refresh
@@ -41,15 +44,25 @@ first_end persists deletes parts handed cookie all = at_drop_all (λ ps. first_o
 
 -- ---- the turn of a search
 
-abbrev turn_now : SearchState → HandOut
-turn_now s = turn_of_pending s.id (pending s)
+-- what is pending of a search whose pieces are all decided, by what is left of its refresh
+pub pending_settled : (d : DirectoryState) (s : SearchState) (rest : List SyncMessage) → s.over ≡ false → s.progress.left ≡ [] → s.progress.rest ≡ rest → pending d s ≡ rest ++ s.progress.due
+pending_settled d s rest off none is = λ i. cond (off i) (busy_end ∷ []) (is i ++ (coming_by (none i) (sliced d s) (length d.writes) s.progress ++ s.progress.due))
+
+-- the same search without its first message
+pub advanced_settled : (d : DirectoryState) (s : SearchState) → s.progress.left ≡ [] → advanced d s ≡ record s { progress = without_first s.progress s.progress.rest s.progress.due }
+advanced_settled d s none =
+    ap (λ (now : SliceProgress). record s { progress = without_first now now.rest now.due })
+    (ap (λ us. ready_from (length us) (sliced d s) (length d.writes) s.progress) none)
+
+abbrev turn_now : DirectoryState → SearchState → HandOut
+turn_now d s = turn_of_pending s.id (pending d s)
 
 -- one that is over hands out the end with busy
-pub over_turn : (s : SearchState) → s.over ≡ true → turn_of_pending s.id (pending s) ≡ Closes (pos BUSY) (sent s.id (Done (pos BUSY) None))
-over_turn s on = ap (λ o. turn_of_pending s.id (cond o (busy_end ∷ []) (s.rest ++ s.due))) on
+pub over_turn : (d : DirectoryState) (s : SearchState) → s.over ≡ true → turn_of_pending s.id (pending d s) ≡ Closes (pos BUSY) (sent s.id (Done (pos BUSY) None))
+over_turn d s on = ap (turn_of_pending s.id) (pending_over d s on)
 
-turn_of_rest : (s : SearchState) (rest : List SyncMessage) → s.over ≡ false → s.rest ≡ rest → turn_now s ≡ turn_of_pending s.id (rest ++ s.due)
-turn_of_rest s rest off is = λ i. turn_of_pending s.id (cond (off i) (busy_end ∷ []) (is i ++ s.due))
+turn_of_rest : (d : DirectoryState) (s : SearchState) (rest : List SyncMessage) → s.over ≡ false → s.progress.left ≡ [] → s.progress.rest ≡ rest → turn_now d s ≡ turn_of_pending s.id (rest ++ s.progress.due)
+turn_of_rest d s rest off settled is = ap (turn_of_pending s.id) (pending_settled d s rest off settled is)
 
 -- a part of a refresh is handed out
 pub part_hands : (id : ℕ) (deletes : Bool) (p : RefreshItem) → turn_of_message id (message_of deletes p) ≡ Hands (sent id (message_of deletes p))
@@ -57,16 +70,16 @@ part_hands id deletes (part.Whole entry) = refl
 part_hands id deletes (part.Names uuids) = refl
 
 -- in a refresh the first part that is left
-pub part_turn : (s : SearchState) (persists deletes : Bool) (parts : List RefreshItem) (cookie : CookieText) → s.over ≡ false → s.rest ≡ messages_of persists deletes parts cookie → is_nil parts ≡ false
-    → turn_of_pending s.id (pending s) ≡ Hands (sent s.id (first_of persists deletes parts cookie))
-part_turn s persists deletes [] cookie off is some = absurd (true≢false some)
-part_turn s persists deletes (p ∷ parts) cookie off is some = turn_of_rest s (messages_of persists deletes (p ∷ parts) cookie) off is ∙ part_hands s.id deletes p
+pub part_turn : (d : DirectoryState) (s : SearchState) (persists deletes : Bool) (parts : List RefreshItem) (cookie : CookieText) → s.over ≡ false → s.progress.left ≡ [] → s.progress.rest ≡ messages_of persists deletes parts cookie → is_nil parts ≡ false
+    → turn_of_pending s.id (pending d s) ≡ Hands (sent s.id (first_of persists deletes parts cookie))
+part_turn d s persists deletes [] cookie off settled is some = absurd (true≢false some)
+part_turn d s persists deletes (p ∷ parts) cookie off settled is some = turn_of_rest d s (messages_of persists deletes (p ∷ parts) cookie) off settled is ∙ part_hands s.id deletes p
 
 -- which is not left then
-pub part_state : (s : SearchState) (persists deletes : Bool) (parts : List RefreshItem) (cookie : CookieText) → s.rest ≡ messages_of persists deletes parts cookie → is_nil parts ≡ false
-    → without_first s ≡ record s { rest = messages_of persists deletes (drop 1 parts) cookie }
-part_state s persists deletes [] cookie is some = absurd (true≢false some)
-part_state s persists deletes (p ∷ parts) cookie is some = ap (λ rest. advanced s rest s.due) is
+pub part_state : (d : DirectoryState) (s : SearchState) (persists deletes : Bool) (parts : List RefreshItem) (cookie : CookieText) → s.progress.left ≡ [] → s.progress.rest ≡ messages_of persists deletes parts cookie → is_nil parts ≡ false
+    → advanced d s ≡ record s { progress = record s.progress { rest = messages_of persists deletes (drop 1 parts) cookie } }
+part_state d s persists deletes [] cookie settled is some = absurd (true≢false some)
+part_state d s persists deletes (p ∷ parts) cookie settled is some = advanced_settled d s settled ∙ ap (λ rest. record s { progress = without_first s.progress rest s.progress.due }) is
 
 -- the end of the refresh of a search that goes on is a message that leaves the search open
 pub end_hands : (id : ℕ) (deletes : Bool) (cookie : CookieText) → turn_of_message id (end_of true deletes cookie) ≡ Hands (sent id (end_of true deletes cookie))
@@ -74,26 +87,26 @@ end_hands id true cookie = refl
 end_hands id false cookie = refl
 
 -- after the parts the end of the refresh, where the search goes on
-pub end_turn : (s : SearchState) (deletes : Bool) (parts : List RefreshItem) (cookie : CookieText) → s.over ≡ false → s.rest ≡ messages_of true deletes parts cookie → is_nil parts ≡ true
-    → turn_of_pending s.id (pending s) ≡ Hands (sent s.id (first_of true deletes parts cookie))
-end_turn s deletes [] cookie off is none = turn_of_rest s (messages_of true deletes [] cookie) off is ∙ end_hands s.id deletes cookie
-end_turn s deletes (p ∷ parts) cookie off is none = absurd (false≢true none)
+pub end_turn : (d : DirectoryState) (s : SearchState) (deletes : Bool) (parts : List RefreshItem) (cookie : CookieText) → s.over ≡ false → s.progress.left ≡ [] → s.progress.rest ≡ messages_of true deletes parts cookie → is_nil parts ≡ true
+    → turn_of_pending s.id (pending d s) ≡ Hands (sent s.id (first_of true deletes parts cookie))
+end_turn d s deletes [] cookie off settled is none = turn_of_rest d s (messages_of true deletes [] cookie) off settled is ∙ end_hands s.id deletes cookie
+end_turn d s deletes (p ∷ parts) cookie off settled is none = absurd (false≢true none)
 
 -- after which nothing is left of the refresh
-pub end_state : (s : SearchState) (persists deletes : Bool) (parts : List RefreshItem) (cookie : CookieText) → s.rest ≡ messages_of persists deletes parts cookie → is_nil parts ≡ true
-    → without_first s ≡ record s { rest = [] }
-end_state s persists deletes [] cookie is none = ap (λ rest. advanced s rest s.due) is
-end_state s persists deletes (p ∷ parts) cookie is none = absurd (false≢true none)
+pub end_state : (d : DirectoryState) (s : SearchState) (persists deletes : Bool) (parts : List RefreshItem) (cookie : CookieText) → s.progress.left ≡ [] → s.progress.rest ≡ messages_of persists deletes parts cookie → is_nil parts ≡ true
+    → advanced d s ≡ record s { progress = record s.progress { rest = [] } }
+end_state d s persists deletes [] cookie settled is none = advanced_settled d s settled ∙ ap (λ rest. record s { progress = without_first s.progress rest s.progress.due }) is
+end_state d s persists deletes (p ∷ parts) cookie settled is none = absurd (false≢true none)
 
 -- or the end of the search
-pub last_turn : (s : SearchState) (deletes : Bool) (parts : List RefreshItem) (cookie : CookieText) → s.over ≡ false → s.rest ≡ messages_of false deletes parts cookie → is_nil parts ≡ true
-    → turn_of_pending s.id (pending s) ≡ Closes (pos SUCCESS) (sent s.id (first_of false deletes parts cookie))
-last_turn s deletes [] cookie off is none = turn_of_rest s (messages_of false deletes [] cookie) off is
-last_turn s deletes (p ∷ parts) cookie off is none = absurd (false≢true none)
+pub last_turn : (d : DirectoryState) (s : SearchState) (deletes : Bool) (parts : List RefreshItem) (cookie : CookieText) → s.over ≡ false → s.progress.left ≡ [] → s.progress.rest ≡ messages_of false deletes parts cookie → is_nil parts ≡ true
+    → turn_of_pending s.id (pending d s) ≡ Closes (pos SUCCESS) (sent s.id (first_of false deletes parts cookie))
+last_turn d s deletes [] cookie off settled is none = turn_of_rest d s (messages_of false deletes [] cookie) off settled is
+last_turn d s deletes (p ∷ parts) cookie off settled is none = absurd (false≢true none)
 
 -- the first message of later writes, once the refresh is handed out
-pub later_turn : (s : SearchState) (m : SyncMessage) → s.over ≡ false → s.rest ≡ [] → slice_get s.due 0 ≡ Some m → is_end m ≡ false → turn_of_pending s.id (pending s) ≡ Hands (sent s.id m)
-later_turn s m off none first goes = turn_of_rest s [] off none ∙ by s.due refl
+pub later_turn : (d : DirectoryState) (s : SearchState) (m : SyncMessage) → s.over ≡ false → s.progress.left ≡ [] → s.progress.rest ≡ [] → slice_get s.progress.due 0 ≡ Some m → is_end m ≡ false → turn_of_pending s.id (pending d s) ≡ Hands (sent s.id m)
+later_turn d s m off settled none first goes = turn_of_rest d s [] off settled none ∙ by s.progress.due refl
   where
     same : (x : SyncMessage) → Some x ≡ Some m → x ≡ m
     same x e = cc
@@ -101,22 +114,22 @@ later_turn s m off none first goes = turn_of_rest s [] off none ∙ by s.due ref
     never : None ≡ Some m → ⊥
     never e = cc
 
-    by : (due : List SyncMessage) → s.due ≡ due → turn_of_pending s.id due ≡ Hands (sent s.id m)
+    by : (due : List SyncMessage) → s.progress.due ≡ due → turn_of_pending s.id due ≡ Hands (sent s.id m)
     by [] is = absurd (never (sym (ap (λ l. slice_get l 0) is) ∙ first))
     by (x ∷ due) is = ap (turn_of_message s.id) (same x (sym (ap (λ l. slice_get l 0) is) ∙ first)) ∙ hands s.id m goes
 
 -- after the refresh the first message of the later writes
-pub later_state : (s : SearchState) (m : SyncMessage) (due : List SyncMessage) → s.rest ≡ [] → s.due ≡ m ∷ due → without_first s ≡ record s { due = due }
-later_state s m due none is = λ i. advanced s (none i) (is i)
+pub later_state : (d : DirectoryState) (s : SearchState) (m : SyncMessage) (due : List SyncMessage) → s.progress.left ≡ [] → s.progress.rest ≡ [] → s.progress.due ≡ m ∷ due → advanced d s ≡ record s { progress = record s.progress { due = due } }
+later_state d s m due settled none is = advanced_settled d s settled ∙ (λ i. record s { progress = without_first s.progress (none i) (is i) })
 
 -- and nothing, where none is pending
-pub none_turn : (s : SearchState) → s.over ≡ false → s.rest ≡ [] → slice_get s.due 0 ≡ None → turn_of_pending s.id (pending s) ≡ Waits
-none_turn s off none first = turn_of_rest s [] off none ∙ by s.due refl
+pub none_turn : (d : DirectoryState) (s : SearchState) → s.over ≡ false → s.progress.left ≡ [] → s.progress.rest ≡ [] → slice_get s.progress.due 0 ≡ None → turn_of_pending s.id (pending d s) ≡ Waits
+none_turn d s off settled none first = turn_of_rest d s [] off settled none ∙ by s.progress.due refl
   where
     never : (x : SyncMessage) → Some x ≡ None → ⊥
     never x e = cc
 
-    by : (due : List SyncMessage) → s.due ≡ due → turn_of_pending s.id due ≡ Waits
+    by : (due : List SyncMessage) → s.progress.due ≡ due → turn_of_pending s.id due ≡ Waits
     by [] is = refl
     by (x ∷ due) is = absurd (never x (sym (ap (λ l. slice_get l 0) is) ∙ first))
 
@@ -135,56 +148,56 @@ message_there id (Done code control) = refl
 message_there id Ignored = refl
 
 -- of a search that is over
-pub over_has_message : (s : SearchState) → s.over ≡ true → has_message (turn_of_pending s.id (pending s)) ≡ true
-over_has_message s on = ap has_message (over_turn s on)
+pub over_has_message : (d : DirectoryState) (s : SearchState) → s.over ≡ true → has_message (turn_of_pending s.id (pending d s)) ≡ true
+over_has_message d s on = ap has_message (over_turn d s on)
 
 -- of what is left of a refresh
-pub rest_has_message : (s : SearchState) (persists deletes : Bool) (parts : List RefreshItem) (cookie : CookieText) → s.over ≡ false → s.rest ≡ messages_of persists deletes parts cookie
-    → has_message (turn_of_pending s.id (pending s)) ≡ true
-rest_has_message s persists deletes [] cookie off is =
-    ap has_message (turn_of_rest s (messages_of persists deletes [] cookie) off is) ∙ message_there s.id (end_of persists deletes cookie)
-rest_has_message s persists deletes (p ∷ parts) cookie off is =
-    ap has_message (turn_of_rest s (messages_of persists deletes (p ∷ parts) cookie) off is) ∙ message_there s.id (message_of deletes p)
+pub rest_has_message : (d : DirectoryState) (s : SearchState) (persists deletes : Bool) (parts : List RefreshItem) (cookie : CookieText) → s.over ≡ false → s.progress.left ≡ [] → s.progress.rest ≡ messages_of persists deletes parts cookie
+    → has_message (turn_of_pending s.id (pending d s)) ≡ true
+rest_has_message d s persists deletes [] cookie off settled is =
+    ap has_message (turn_of_rest d s (messages_of persists deletes [] cookie) off settled is) ∙ message_there s.id (end_of persists deletes cookie)
+rest_has_message d s persists deletes (p ∷ parts) cookie off settled is =
+    ap has_message (turn_of_rest d s (messages_of persists deletes (p ∷ parts) cookie) off settled is) ∙ message_there s.id (message_of deletes p)
 
 -- of later writes
-pub due_has_message : (s : SearchState) (m : SyncMessage) → s.over ≡ false → s.rest ≡ [] → slice_get s.due 0 ≡ Some m → has_message (turn_of_pending s.id (pending s)) ≡ true
-due_has_message s m off none first = ap has_message (turn_of_rest s [] off none) ∙ by s.due refl
+pub due_has_message : (d : DirectoryState) (s : SearchState) (m : SyncMessage) → s.over ≡ false → s.progress.left ≡ [] → s.progress.rest ≡ [] → slice_get s.progress.due 0 ≡ Some m → has_message (turn_of_pending s.id (pending d s)) ≡ true
+due_has_message d s m off settled none first = ap has_message (turn_of_rest d s [] off settled none) ∙ by s.progress.due refl
   where
     never : None ≡ Some m → ⊥
     never e = cc
 
-    by : (due : List SyncMessage) → s.due ≡ due → has_message (turn_of_pending s.id due) ≡ true
+    by : (due : List SyncMessage) → s.progress.due ≡ due → has_message (turn_of_pending s.id due) ≡ true
     by [] is = absurd (never (sym (ap (λ l. slice_get l 0) is) ∙ first))
     by (x ∷ due) is = message_there s.id x
 
 -- of the search of a number
-pub found_has_message : (es : List (ℕ × HeldSearch)) (k : ℕ) (held : HeldSearch) → kept_at es k ≡ Some held → has_message (turn_of_pending held.search.id (pending held.search)) ≡ true
-    → has_message (turn_at (searches_of es) k) ≡ true
-found_has_message es k held found there = ap has_message (turn_found es k held found) ∙ there
+pub found_has_message : (d : DirectoryState) (es : List (ℕ × HeldSearch)) (k : ℕ) (held : HeldSearch) → kept_at es k ≡ Some held → has_message (turn_of_pending held.search.id (pending d held.search)) ≡ true
+    → has_message (turn_at d (searches_of es) k) ≡ true
+found_has_message d es k held found there = ap has_message (turn_found d es k held found) ∙ there
 
 -- ---- the open searches after a turn
 
-open_by : (es : List (ℕ × SearchState)) (k : ℕ) (s : SearchState) (turn : Option HandOut) → search_at es k ≡ Some s → is_closing turn ≡ false
-    → put_on es k (after_own_turn s turn) ≡ after_a_turn es k turn
-open_by es k s None found h = set_value_same (is_at (nat_cmp k)) es s found
-open_by es k s (Some (Hands message)) found h = sym (ap (handed_on es k) found)
-open_by es k s (Some (Closes code message)) found h = absurd (true≢false h)
-open_by es k s (Some Waits) found h = set_value_same (is_at (nat_cmp k)) es s found
-open_by es k s (Some Unknown) found h = set_value_same (is_at (nat_cmp k)) es s found
+open_by : (d : DirectoryState) (es : List (ℕ × SearchState)) (k : ℕ) (s : SearchState) (turn : Option HandOut) → search_at es k ≡ Some s → is_closing turn ≡ false
+    → put_on es k (after_own_turn d s turn) ≡ after_a_turn d es k turn
+open_by d es k s None found h = set_value_same (is_at (nat_cmp k)) es s found
+open_by d es k s (Some (Hands message)) found h = sym (ap (handed_on d es k) found)
+open_by d es k s (Some (Closes code message)) found h = absurd (true≢false h)
+open_by d es k s (Some Waits) found h = set_value_same (is_at (nat_cmp k)) es s found
+open_by d es k s (Some Unknown) found h = set_value_same (is_at (nat_cmp k)) es s found
 
 -- a turn that closes a search leaves the others
-pub closed_after : (es : List (ℕ × HeldSearch)) (k : ℕ) (turn : Option HandOut) → is_closing turn ≡ true → searches_of (closed_at es k) ≡ after_a_turn (searches_of es) k turn
-closed_after es k (Some (Closes code message)) h = held_closed es k
-closed_after es k None h = absurd (false≢true h)
-closed_after es k (Some (Hands message)) h = absurd (false≢true h)
-closed_after es k (Some Waits) h = absurd (false≢true h)
-closed_after es k (Some Unknown) h = absurd (false≢true h)
+pub closed_after : (d : DirectoryState) (es : List (ℕ × HeldSearch)) (k : ℕ) (turn : Option HandOut) → is_closing turn ≡ true → searches_of (closed_at es k) ≡ after_a_turn d (searches_of es) k turn
+closed_after d es k (Some (Closes code message)) h = held_closed es k
+closed_after d es k None h = absurd (false≢true h)
+closed_after d es k (Some (Hands message)) h = absurd (false≢true h)
+closed_after d es k (Some Waits) h = absurd (false≢true h)
+closed_after d es k (Some Unknown) h = absurd (false≢true h)
 
 -- a search that is taken out for its turn and put back
-pub open_after : (es : List (ℕ × HeldSearch)) (k : ℕ) (old new : HeldSearch) (turn : Option HandOut) → kept_at es k ≡ Some old → ((held : HeldSearch) → insert_entry nat_cmp (closed_at es k) k held ≡ put_on es k held)
-    → new.search ≡ after_own_turn old.search turn → is_closing turn ≡ false → searches_of (insert_entry nat_cmp (closed_at es k) k new) ≡ after_a_turn (searches_of es) k turn
-open_after es k old new turn found again same h =
-    ap searches_of (again new) ∙ held_put es k new ∙ ap (put_on (searches_of es) k) same ∙ open_by (searches_of es) k old.search turn (search_found es k old found) h
+pub open_after : (d : DirectoryState) (es : List (ℕ × HeldSearch)) (k : ℕ) (old new : HeldSearch) (turn : Option HandOut) → kept_at es k ≡ Some old → ((held : HeldSearch) → insert_entry nat_cmp (closed_at es k) k held ≡ put_on es k held)
+    → new.search ≡ after_own_turn d old.search turn → is_closing turn ≡ false → searches_of (insert_entry nat_cmp (closed_at es k) k new) ≡ after_a_turn d (searches_of es) k turn
+open_after d es k old new turn found again same h =
+    ap searches_of (again new) ∙ held_put es k new ∙ ap (put_on (searches_of es) k) same ∙ open_by d (searches_of es) k old.search turn (search_found es k old found) h
 
 -- ---- the end of a refresh
 

@@ -58,12 +58,17 @@ pub record AcceptLeaves
 
 pub record HandOutLeaves
     (old : ProviderState) (number : ℕ) (result : Handed) (new : ProviderState) : Type 0 where
-  pub turn : IfSome (handing.turn_of result) (λ turn. turn ≡ handing.turn_at old.searches number)
+  pub turn : IfSome (handing.turn_of result) (λ turn.
+      turn ≡ handing.turn_at old.directory old.searches number)
   pub memory :
-      result ≡ handed.NoMemory → handing.has_message (handing.turn_at old.searches number) ≡ true
+      result ≡ handed.NoMemory
+      → handing.has_message (handing.turn_at old.directory old.searches number) ≡ true
   pub state :
       new
-      ≡ record old { searches = handing.after_a_turn old.searches number (handing.turn_of result) }
+      ≡ record old {
+        searches =
+            handing.after_a_turn old.directory old.searches number (handing.turn_of result);
+      }
 
 pub record DropLeaves
     (old : ProviderState) (number : ℕ) (result : Bool) (new : ProviderState) : Type 0 where

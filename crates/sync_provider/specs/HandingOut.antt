@@ -7,6 +7,7 @@ use Rattle.ldap_messages.specs.Whole.{MessageValue, message_value}
 use Rattle.sync_model.specs.Message.{SyncMessage}
 use Rattle.sync_model.specs.Message.SyncMessage.{AddOrModify, Delete, Present, IdSet, NewCookie, RefreshDelete, RefreshPresent, Done, Ignored}
 use Rattle.sync_wire.specs.Sending.{sent}
+use Rattle.directory_writes.specs.Directory.{DirectoryState}
 use Rattle.sync_provider.specs.Search.{SearchState, pending, advanced}
 use Rattle.sync_provider.specs.declared.handed.Handed.{Handed}
 use Rattle.sync_provider.specs.declared.handed.Handed.TheVariants as handed
@@ -40,24 +41,24 @@ abbrev pub turn_of_pending : ℕ → List SyncMessage → HandOut
 turn_of_pending id [] = Waits
 turn_of_pending id (message ∷ rest) = turn_of_message id message
 
-abbrev pub turn_of_found : Option SearchState → HandOut
-turn_of_found None = Unknown
-turn_of_found (Some s) = turn_of_pending s.id (pending s)
+abbrev pub turn_of_found : DirectoryState → Option SearchState → HandOut
+turn_of_found d None = Unknown
+turn_of_found d (Some s) = turn_of_pending s.id (pending d s)
 
 abbrev pub search_at : List (ℕ × SearchState) → ℕ → Option SearchState
 search_at searches number = lookup (is_at (nat_cmp number)) searches
 
 -- the turn of the search with this number
-abbrev pub turn_at : List (ℕ × SearchState) → ℕ → HandOut
-turn_at searches number = turn_of_found (search_at searches number)
+abbrev pub turn_at : DirectoryState → List (ℕ × SearchState) → ℕ → HandOut
+turn_at d searches number = turn_of_found d (search_at searches number)
 
 -- the turn of the message with n before it of those that are pending
-abbrev pub turn_of_place : ℕ → Option SearchState → HandOut
-turn_of_place place None = Unknown
-turn_of_place place (Some s) = turn_of_pending s.id (drop place (pending s))
+abbrev pub turn_of_place : DirectoryState → ℕ → Option SearchState → HandOut
+turn_of_place d place None = Unknown
+turn_of_place d place (Some s) = turn_of_pending s.id (drop place (pending d s))
 
-abbrev pub turn_at_place : List (ℕ × SearchState) → ℕ → ℕ → HandOut
-turn_at_place searches number place = turn_of_place place (search_at searches number)
+abbrev pub turn_at_place : DirectoryState → List (ℕ × SearchState) → ℕ → ℕ → HandOut
+turn_at_place d searches number place = turn_of_place d place (search_at searches number)
 
 -- there is a message in it, which has to be written
 abbrev pub has_message : HandOut → Bool
@@ -92,31 +93,32 @@ reply_of stops.NoMemory = Some handed.NoMemory
 
 -- ---- the searches after it
 
-abbrev pub without_first : SearchState → SearchState
-without_first s = advanced s s.rest s.due
-
 -- the search itself after its turn
-abbrev pub after_own_turn : SearchState → Option HandOut → SearchState
-after_own_turn s None = s
-after_own_turn s (Some (Hands message)) = without_first s
-after_own_turn s (Some (Closes code message)) = s
-after_own_turn s (Some Waits) = s
-after_own_turn s (Some Unknown) = s
+abbrev pub after_own_turn : DirectoryState → SearchState → Option HandOut → SearchState
+after_own_turn d s None = s
+after_own_turn d s (Some (Hands message)) = advanced d s
+after_own_turn d s (Some (Closes code message)) = s
+after_own_turn d s (Some Waits) = s
+after_own_turn d s (Some Unknown) = s
 
 abbrev pub closed : List (ℕ × SearchState) → ℕ → List (ℕ × SearchState)
 closed searches number = remove_entry (is_at (nat_cmp number)) searches
 
-abbrev pub handed_on : List (ℕ × SearchState) → ℕ → Option SearchState → List (ℕ × SearchState)
-handed_on searches number None = searches
-handed_on searches number (Some s) = set_value (is_at (nat_cmp number)) searches (without_first s)
+abbrev pub handed_on :
+    DirectoryState → List (ℕ × SearchState) → ℕ → Option SearchState → List (ℕ × SearchState)
+handed_on d searches number None = searches
+handed_on d searches number (Some s) = set_value (is_at (nat_cmp number)) searches (advanced d s)
 
-abbrev pub after_turn : List (ℕ × SearchState) → ℕ → HandOut → List (ℕ × SearchState)
-after_turn searches number (Hands message) = handed_on searches number (search_at searches number)
-after_turn searches number (Closes code message) = closed searches number
-after_turn searches number Waits = searches
-after_turn searches number Unknown = searches
+abbrev pub after_turn :
+    DirectoryState → List (ℕ × SearchState) → ℕ → HandOut → List (ℕ × SearchState)
+after_turn d searches number (Hands message) =
+    handed_on d searches number (search_at searches number)
+after_turn d searches number (Closes code message) = closed searches number
+after_turn d searches number Waits = searches
+after_turn d searches number Unknown = searches
 
 -- where memory ran out, all is as before
-abbrev pub after_a_turn : List (ℕ × SearchState) → ℕ → Option HandOut → List (ℕ × SearchState)
-after_a_turn searches number None = searches
-after_a_turn searches number (Some turn) = after_turn searches number turn
+abbrev pub after_a_turn :
+    DirectoryState → List (ℕ × SearchState) → ℕ → Option HandOut → List (ℕ × SearchState)
+after_a_turn d searches number None = searches
+after_a_turn d searches number (Some turn) = after_turn d searches number turn

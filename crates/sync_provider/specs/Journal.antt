@@ -93,7 +93,12 @@ with_journal p j = record { state = p; events = j.events; handed = j.handed }
 -- a search that is open under this number, of which n messages were handed out
 abbrev pub followed_as : (number handed : ℕ) → SearchState → FollowedSearch
 followed_as number handed s =
-    record { opened = opening_of_search number s; handed = handed; over = s.over }
+    record {
+      opened = opening_of_search number s;
+      handed = handed;
+      marks = s.progress.marks;
+      over = s.over;
+    }
 
 abbrev pub followed_in : JournalledProvider → ℕ → Option FollowedSearch
 followed_in v number =

@@ -1,6 +1,6 @@
 -- What holds of a provider over every list of calls: its writes, what it knows of what they
 -- touched, and what its searches hand out (RFC 4533, sections 3.3 and 3.4).
-use Rattle.std.specs.Prelude.{◌≡◌, ◌≤◌, ◌⊎◌, ⊤, ℕ, ◌+◌, ◌-◌, Bool, true, false, cond, not, ◌&&◌, ◌||◌, nat_eq, nat_lt, List, [], ◌∷◌, ◌++◌, length, take, drop, Option, Some, None, Result, Ok, Err, All, filter_map}
+use Rattle.std.specs.Prelude.{◌≡◌, ◌≤◌, ⊤, ℕ, ◌+◌, Bool, true, false, cond, not, ◌&&◌, ◌||◌, nat_eq, nat_lt, List, [], ◌∷◌, ◌++◌, length, take, Option, Some, None, option_map, Result, Ok, Err, All, filter_map}
 use Rattle.std.specs.List.{list_all}
 use Rattle.csn_cookie.specs.Csn.{start, upto}
 use Rattle.dn_names.specs.Names.{TypeAndValue}
@@ -14,16 +14,18 @@ use Rattle.entry_tree.specs.Sound.{is_commit, is_sound_op, is_sound_put}
 use Rattle.session_log.specs.Log.{covers, since}
 use Rattle.sync_model.specs.Incremental.{number_of, sent_entry}
 use Rattle.sync_model.specs.Message.{SyncMessage}
-use Rattle.sync_model.specs.Law.{is_nil}
-use Rattle.sync_model.specs.Stream.{SyncOperation, among, later, stream}
+use Rattle.sync_model.specs.Stream.{SyncOperation, among, last_mark, refresh}
+use Rattle.sync_slices.specs.Law.{IsAt}
+use Rattle.sync_slices.specs.Slices as slices
+use Rattle.sync_slices.specs.Slices.{SlicedRefresh, all_pieces, stream_upto, marks_then}
 use Rattle.sync_provider.specs.Accepting.{answer_to, start_of_ask, persists_of_ask}
 use Rattle.sync_provider.specs.Committing.{commit_refusal}
 use Rattle.directory_writes.specs.Directory.{DirectoryState, last_csn, csns, judged, with_write, AreAccepted}
 use Rattle.sync_provider.specs.HandingOut.{search_at}
 use Rattle.sync_provider.specs.Machine.{ProviderState, ProviderCall, fresh, judged_by, accepted, called, run}
 use Rattle.sync_provider.specs.Machine.ProviderCall.{Writes, Commits, Accepts, HandsOut, Drops, SetsLogLimit, SetsQueueLimit}
-use Rattle.sync_provider.specs.Queueing.{is_full, group_of}
-use Rattle.sync_provider.specs.Search.{SearchState, session_of, whole_walk, refresh_from, opening, busy_end, pending, is_end}
+use Rattle.sync_provider.specs.Queueing.{limits_of}
+use Rattle.sync_provider.specs.Search.{SearchState, session_of, sliced_over, opening, busy_end, pending, advanced, is_end}
 use Rattle.directory_writes.specs.Touches.{last_touch}
 use Rattle.sync_provider.specs.declared.provider.Kind.{Kind}
 use Rattle.sync_provider.specs.declared.searches.Accepted.TheVariants.{Opened}
@@ -105,34 +107,25 @@ NumbersShowWhatWasTouched =
 abbrev pub session_at : DirectoryState → SearchState → List Write → SyncOperation
 session_at d s writes = session_of s.persists d.sid d.history s.spec writes
 
--- its refresh
-abbrev pub refresh_of : DirectoryState → SearchState → List Write → List SyncMessage
-refresh_of d s writes = refresh_from (session_at d s writes) s.start s.accepted
+-- its refresh, which is decided in pieces
+abbrev pub refresh_at : DirectoryState → SearchState → List Write → SlicedRefresh
+refresh_at d s writes = sliced_over d.sid d.history writes s
 
--- what the writes after its acceptance send to it, up to n writes
-abbrev pub later_of : DirectoryState → SearchState → (count : ℕ) → List Write → List SyncMessage
-later_of d s count writes =
-    cond s.persists (later (session_at d s writes) s.accepted (count - s.accepted)) []
-
--- all its messages, up to n writes
-abbrev pub stream_of : DirectoryState → SearchState → (count : ℕ) → List Write → List SyncMessage
-stream_of d s count writes =
-    stream (session_at d s writes) s.start s.accepted
-    (whole_walk (session_at d s writes) s.start s.accepted) (count - s.accepted)
+-- all its messages up to n writes, where its pieces were decided at these numbers of writes, and
+-- what is left of its walk at n
+abbrev pub stream_of :
+    DirectoryState → SearchState → (marks : List ℕ) → (count : ℕ) → List Write → List SyncMessage
+stream_of d s marks count writes = stream_upto (refresh_at d s writes) marks count
 
 -- ---- what holds of each open search
 
 -- these messages of its refresh, and these of what the writes up to now send, were handed out, and
--- the rest is pending, over each history that begins with these writes; and nothing later was
--- handed out before all of the refresh
-pub record IsAtItsPlace
-    (d : DirectoryState) (s : SearchState) (handed handed_later : List SyncMessage) : Type 0 where
-  pub within : s.accepted ≤ length d.writes
-  pub rest : (writes : List Write) → BeginsWith d writes → handed ++ s.rest ≡ refresh_of d s writes
-  pub due :
-      (writes : List Write) → BeginsWith d writes
-      → handed_later ++ s.due ≡ later_of d s (length d.writes) writes
-  pub ordered : (s.rest ≡ []) ⊎ (handed_later ≡ [])
+-- what is kept of it is what follows them, over each history that begins with these writes
+abbrev pub IsAtItsPlace :
+    DirectoryState → SearchState → (handed handed_later : List SyncMessage) → Type 0
+IsAtItsPlace d s handed handed_later =
+    (writes : List Write) → BeginsWith d writes
+    → IsAt (refresh_at d s writes) (length d.writes) s.progress handed handed_later
 
 pub record IsPlaced (d : DirectoryState) (s : SearchState) : Type 0 where
   pub handed : List SyncMessage
@@ -161,20 +154,25 @@ SearchesKeepTheirPlace =
 
 -- ---- what one search hands out over the calls after its acceptance
 
--- what was handed out up to a moment; and then, what is pending, whether a write was too much, and
--- the number of writes
+-- what was handed out up to a moment; and then, what is pending, at which numbers of writes its
+-- pieces were decided, whether a write was too much, and the number of writes
 pub record Delivery : Type 0 where
   pub handed : List SyncMessage
   pub pending : List SyncMessage
+  pub marks : List ℕ
   pub over : Bool
   pub writes : ℕ
 
-abbrev pub pending_of : Option SearchState → List SyncMessage
-pending_of None = []
-pending_of (Some s) = pending s
+abbrev pub pending_of : DirectoryState → Option SearchState → List SyncMessage
+pending_of d None = []
+pending_of d (Some s) = pending d s
 
 abbrev pub pending_at : ProviderState → ℕ → List SyncMessage
-pending_at p number = pending_of (search_at p.searches number)
+pending_at p number = pending_of p.directory (search_at p.searches number)
+
+abbrev pub marks_of : Option SearchState → List ℕ
+marks_of None = []
+marks_of (Some s) = s.progress.marks
 
 abbrev pub over_of : Option SearchState → Bool
 over_of None = false
@@ -186,15 +184,23 @@ delivered_now p number handed pending =
     record {
       handed = handed;
       pending = pending;
+      marks = marks_of (search_at p.searches number);
       over = over_of (search_at p.searches number);
       writes = length p.directory.writes;
+    }
+
+-- an end is handed out, which may decide the last pieces
+abbrev pub ended_now : ProviderState → ℕ → SyncMessage → List SyncMessage → Delivery
+ended_now p number message rest =
+    record (delivered_now p number (message ∷ []) rest) {
+      marks = marks_of (option_map (advanced p.directory) (search_at p.searches number));
     }
 
 -- the first message is handed out, then what follows; after an end nothing follows
 abbrev pub first_delivered : ProviderState → ℕ → List SyncMessage → Delivery → Delivery
 first_delivered p number [] later = later
 first_delivered p number (message ∷ rest) later =
-    cond (is_end message) (delivered_now p number (message ∷ []) rest)
+    cond (is_end message) (ended_now p number message rest)
     (record later { handed = message ∷ later.handed })
 
 -- what the search with this number reports over these calls, up to its end or
@@ -247,7 +253,8 @@ DeliversItsStream p ask number calls =
     (writes : List Write) → BeginsWith (run (accepted p ask) calls).directory writes
     → Delivers (delivered number (accepted p ask) calls).over
     (all_delivered (delivered number (accepted p ask) calls))
-    (stream_of p.directory (asked p ask) (delivered number (accepted p ask) calls).writes writes)
+    (stream_of p.directory (asked p ask) (delivered number (accepted p ask) calls).marks
+    (delivered number (accepted p ask) calls).writes writes)
 
 abbrev pub SearchesDeliverTheirStreams : Type 0
 SearchesDeliverTheirStreams =
@@ -261,26 +268,25 @@ SearchesDeliverTheirStreams =
 
 -- ---- when a write is too much, by the writes and a count of what was handed out
 
--- how many messages were handed out, and whether a write was too much since
+-- how many messages were handed out, at which numbers of writes the pieces were decided, and
+-- whether a write was too much since
 pub record Tally : Type 0 where
   pub handed : ℕ
+  pub marks : List ℕ
   pub over : Bool
 
--- the messages of later writes that are not handed out: those of the refresh are handed out first
-abbrev pub items_of : DirectoryState → SearchState → (handed : ℕ) → List SyncMessage
-items_of d s handed =
-    drop (handed - length (refresh_of d s d.writes)) (later_of d s (length d.writes) d.writes)
-
--- a write that sends something, after which the items are more, or heavier, than they may be
-abbrev pub is_too_much : ℕ → DirectoryState → SearchState → Write → (handed : ℕ) → Bool
-is_too_much limit d s write handed =
-    not (is_nil (group_of d s write)) && is_full limit (items_of (with_write d write) s handed)
+-- a write that adds to the items, after which they are more, or heavier, than they may be
+abbrev pub is_too_much :
+    ℕ → DirectoryState → SearchState → Write → (marks : List ℕ) → (handed : ℕ) → Bool
+is_too_much limit d s write marks handed =
+    slices.is_too_much (limits_of limit) (refresh_at d s (d.writes ++ write ∷ [])) marks handed
+    (length d.writes)
 
 abbrev pub after_write : ProviderState → SearchState → Result Write ℕ → Tally → Tally
 after_write p s (Err code) t = t
 after_write p s (Ok write) t =
     record t {
-      over = t.over || (s.persists && is_too_much p.queue_limit p.directory s write t.handed);
+      over = t.over || is_too_much p.queue_limit p.directory s write t.marks t.handed;
     }
 
 -- a commit is a write where nothing rejects it
@@ -288,40 +294,44 @@ abbrev pub after_commit : ProviderState → SearchState → Op → ℕ → Optio
 after_commit p s op now None t = after_write p s (judged p.directory op now) t
 after_commit p s op now (Some fault) t = t
 
--- one message more, where one is left
-abbrev pub after_hand_out : ProviderState → SearchState → Tally → Tally
-after_hand_out p s t =
-    cond
-    (not t.over
-    && nat_lt t.handed
-    (length (stream_of p.directory s (length p.directory.writes) p.directory.writes)))
-    (record t { handed = t.handed + 1 }) t
+-- one message more, where one is left; the pieces that it needs are decided then
+abbrev pub hand_out_counted : SlicedRefresh → (now : ℕ) → Tally → Tally
+hand_out_counted r now t =
+    cond (not t.over && nat_lt t.handed (length (stream_upto r t.marks now)))
+    (record t { handed = t.handed + 1; marks = marks_then r t.handed now t.marks }) t
 
--- whether over these calls a write is too much for the search with this number, before it is
--- dropped. Of the provider this looks at the writes and the queue limit alone
-abbrev pub is_over_after : ℕ → SearchState → ProviderState → Tally → List ProviderCall → Bool
-is_over_after number s p t [] = t.over
-is_over_after number s p t (Writes op now ∷ calls) =
-    is_over_after number s (called p (Writes op now))
+abbrev pub after_hand_out : ProviderState → SearchState → Tally → Tally
+after_hand_out p s t = hand_out_counted (refresh_at p.directory s p.directory.writes)
+    (length p.directory.writes) t
+
+-- the tally over these calls, before the search with this number is dropped. Of the provider this
+-- looks at the writes and the queue limit alone
+abbrev pub tally_after : ℕ → SearchState → ProviderState → Tally → List ProviderCall → Tally
+tally_after number s p t [] = t
+tally_after number s p t (Writes op now ∷ calls) =
+    tally_after number s (called p (Writes op now))
     (after_write p s (judged_by p.kind p.directory op now) t) calls
-is_over_after number s p t (Commits puts drops now ∷ calls) =
-    is_over_after number s (called p (Commits puts drops now))
+tally_after number s p t (Commits puts drops now ∷ calls) =
+    tally_after number s (called p (Commits puts drops now))
     (after_commit p s (Commit puts drops) now (commit_refusal p.kind p.directory puts drops now) t)
     calls
-is_over_after number s p t (Accepts ask ∷ calls) =
-    is_over_after number s (called p (Accepts ask)) t calls
-is_over_after number s p t (SetsLogLimit limit ∷ calls) =
-    is_over_after number s (called p (SetsLogLimit limit)) t calls
-is_over_after number s p t (SetsQueueLimit limit ∷ calls) =
-    is_over_after number s (called p (SetsQueueLimit limit)) t calls
-is_over_after number s p t (HandsOut other ∷ calls) =
-    is_over_after number s (called p (HandsOut other))
+tally_after number s p t (Accepts ask ∷ calls) =
+    tally_after number s (called p (Accepts ask)) t calls
+tally_after number s p t (SetsLogLimit limit ∷ calls) =
+    tally_after number s (called p (SetsLogLimit limit)) t calls
+tally_after number s p t (SetsQueueLimit limit ∷ calls) =
+    tally_after number s (called p (SetsQueueLimit limit)) t calls
+tally_after number s p t (HandsOut other ∷ calls) =
+    tally_after number s (called p (HandsOut other))
     (cond (nat_eq other number) (after_hand_out p s t) t) calls
-is_over_after number s p t (Drops other ∷ calls) =
-    cond (nat_eq other number) t.over (is_over_after number s (called p (Drops other)) t calls)
+tally_after number s p t (Drops other ∷ calls) =
+    cond (nat_eq other number) t (tally_after number s (called p (Drops other)) t calls)
 
--- over every list of calls, a search ends with the code busy exactly where a
--- write is too much for it
+-- over every list of calls, the pieces of a search are decided at these numbers of writes, and it
+-- ends with the code busy exactly where a write is too much for it
+abbrev pub AreCounted : Delivery → Tally → Type 0
+AreCounted delivery tally = (delivery.marks ≡ tally.marks) × (delivery.over ≡ tally.over)
+
 abbrev pub QueuesOverflowExactly : Type 0
 QueuesOverflowExactly =
     (suffix : List (List TypeAndValue)) (sid history : ℕ) (kind : Kind)
@@ -330,31 +340,45 @@ QueuesOverflowExactly =
     → answer_to (run (fresh suffix sid history kind) before).directory
     (run (fresh suffix sid history kind) before).searches ask
     ≡ Opened number count
-    → (delivered number (accepted (run (fresh suffix sid history kind) before) ask) after).over
-    ≡ is_over_after number (asked (run (fresh suffix sid history kind) before) ask)
+    → AreCounted
+    (delivered number (accepted (run (fresh suffix sid history kind) before) ask) after)
+    (tally_after number (asked (run (fresh suffix sid history kind) before) ask)
     (accepted (run (fresh suffix sid history kind) before) ask)
-    (record { handed = 0; over = false }) after
+    (record { handed = 0; marks = count ∷ []; over = false }) after)
 
 -- ---- what is sent from a cookie
+
+-- the number of writes at the last piece, where what is left of the walk is decided now
+abbrev pub last_piece : SlicedRefresh → Delivery → ℕ
+last_piece r delivery = last_mark r.accepted (all_pieces r delivery.marks delivery.writes)
 
 -- what a search reports of its refresh: as many messages as that has, or all that it reports
 abbrev pub refresh_delivered :
     ProviderState → SyncSearch → ℕ → List ProviderCall → List Write → List SyncMessage
 refresh_delivered p ask number calls writes =
-    take (length (refresh_of p.directory (asked p ask) writes))
-    (all_delivered (delivered number (accepted p ask) calls))
+    let delivery = delivered number (accepted p ask) calls in
+    let r = refresh_at p.directory (asked p ask) writes in
+    take
+    (length (refresh r.operation r.start r.accepted (all_pieces r delivery.marks delivery.writes)))
+    (all_delivered delivery)
 
 -- from a servable cookie a refresh sends an entry whole only where the writes after those of the
--- cookie, up to the number of the search's acceptance, touched its identity
-abbrev pub SendsWhatWasTouched : ProviderState → SyncSearch → ℕ → ℕ → List ProviderCall → Type 0
-SendsWhatWasTouched p ask number count calls =
+-- cookie, up to the number of writes at its last piece, touched its identity
+abbrev pub SendsWhatWasTouched : ProviderState → SyncSearch → ℕ → List ProviderCall → Type 0
+SendsWhatWasTouched p ask number calls =
     (writes : List Write) → BeginsWith (run (accepted p ask) calls).directory writes
     → (prefix : ℕ) → number_of (start_of_ask p.directory ask) ≡ Some prefix
-    → All (λ entry. among entry.uuid (touched_over p.directory.history writes prefix count) ≡ true)
+    → All
+    (λ entry.
+    among entry.uuid
+    (touched_over p.directory.history writes prefix
+    (last_piece (refresh_at p.directory (asked p ask) writes)
+    (delivered number (accepted p ask) calls)))
+    ≡ true)
     (filter_map sent_entry (refresh_delivered p ask number calls writes))
 
 -- after every list of calls, and whatever is called later; the refresh ends with the cookie of the
--- number of the acceptance
+-- number of writes at its last piece
 abbrev pub RefreshesAreIncremental : Type 0
 RefreshesAreIncremental =
     (suffix : List (List TypeAndValue)) (sid history : ℕ) (kind : Kind)
@@ -363,4 +387,4 @@ RefreshesAreIncremental =
     → answer_to (run (fresh suffix sid history kind) before).directory
     (run (fresh suffix sid history kind) before).searches ask
     ≡ Opened number count
-    → SendsWhatWasTouched (run (fresh suffix sid history kind) before) ask number count after
+    → SendsWhatWasTouched (run (fresh suffix sid history kind) before) ask number after

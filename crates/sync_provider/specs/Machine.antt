@@ -95,7 +95,10 @@ accepted p ask =
 
 abbrev pub handed_out : ProviderState → ℕ → ProviderState
 handed_out p number =
-    record p { searches = handing.after_turn p.searches number (turn_at p.searches number) }
+    record p {
+      searches = handing.after_turn p.directory p.searches number
+          (turn_at p.directory p.searches number);
+    }
 
 abbrev pub dropped : ProviderState → ℕ → ProviderState
 dropped p number = record p { searches = closed p.searches number }

@@ -1,10 +1,11 @@
 -- A search with content synchronisation as it was opened (RFC 4533, sections 3.3 and 3.4).
-use Rattle.std.specs.Prelude.{ℕ, Bool, false, [], length}
+use Rattle.std.specs.Prelude.{ℕ, Bool, length}
 use Rattle.entry_tree.specs.Selection.{Search, search_of}
 use Rattle.sync_model.specs.Stream.{Start}
 use Rattle.directory_writes.specs.Directory.{DirectoryState}
 use Rattle.sync_provider.specs.Accepting.{start_of_ask, persists_of_ask}
-use Rattle.sync_provider.specs.Search.{SearchState}
+use Rattle.sync_slices.specs.Slices.{SlicedRefresh}
+use Rattle.sync_provider.specs.Search.{SearchState, session_of, sliced_from}
 use Rattle.sync_provider.specs.declared.searches.SyncSearch.{SyncSearch}
 
 -- its number, the message ID of its messages, its specification, where it begins, how many writes
@@ -39,15 +40,7 @@ opening_of_search number s = record {
   persists = s.persists;
 }
 
--- a search that was opened so, without its messages
-abbrev pub bare_search : SearchOpening → SearchState
-bare_search o = record {
-  id = o.id;
-  spec = o.spec;
-  start = o.start;
-  accepted = o.accepted;
-  persists = o.persists;
-  rest = [];
-  due = [];
-  over = false;
-}
+-- its refresh over the writes of a directory
+abbrev pub sliced_of : DirectoryState → SearchOpening → SlicedRefresh
+sliced_of d o =
+    sliced_from (session_of o.persists d.sid d.history o.spec d.writes) o.start o.accepted

@@ -19,9 +19,10 @@ use Rattle.sync_provider.specs.Committing.{commit_refusal, RejectsCommit}
 use Rattle.sync_provider.specs.Comparing.{compare_code}
 use Rattle.sync_provider.specs.HandingOut.{HandOut, reply_of, turn_of, turn_of_pending, has_message}
 use Rattle.sync_provider.specs.HandingOut.HandOut.{Hands, Closes, Waits, Unknown}
-use Rattle.sync_provider.specs.Law.{stream_of, is_too_much}
+use Rattle.sync_slices.specs.Slices.{stream_upto, marks_then, is_too_much}
+use Rattle.sync_provider.specs.Queueing.{limits_of}
 use Rattle.sync_provider.specs.Machine.{judged_by}
-use Rattle.sync_provider.specs.Opened.{SearchOpening, opening_of_ask, bare_search}
+use Rattle.sync_provider.specs.Opened.{SearchOpening, opening_of_ask, sliced_of}
 use Rattle.sync_provider.specs.Search.{busy_end}
 use Rattle.sync_provider.specs.Searching.{reply_to}
 use Rattle.sync_provider.specs.declared.handed.Handed.{Handed}
@@ -80,30 +81,34 @@ free_in journal = find (λ number. not (is_open journal number)) (numbers_from 1
 
 -- ---- a search that a port opened
 
--- how it was opened, how many of its messages were handed out, and whether a write was too much for
--- it since
+-- how it was opened, how many of its messages were handed out, at which numbers of writes its
+-- pieces were decided, and whether a write was too much for it since
 pub record FollowedSearch : Type 0 where
   pub opened : SearchOpening
   pub handed : ℕ
+  pub marks : List ℕ
   pub over : Bool
 
--- all its messages up to the writes of a directory
-abbrev pub stream_in : DirectoryState → SearchOpening → List SyncMessage
-stream_in d opened = stream_of d (bare_search opened) (length d.writes) d.writes
+-- all its messages up to the writes of a directory, where what is left of its walk is decided there
+abbrev pub stream_in : DirectoryState → FollowedSearch → List SyncMessage
+stream_in d f = stream_upto (sliced_of d f.opened) f.marks (length d.writes)
 
 -- those that are not handed out; where a write was too much, the end with the code busy
 abbrev pub pending_in : DirectoryState → FollowedSearch → List SyncMessage
-pending_in d f = cond f.over (busy_end ∷ []) (drop f.handed (stream_in d f.opened))
+pending_in d f = cond f.over (busy_end ∷ []) (drop f.handed (stream_in d f))
 
 abbrev pub turn_in : DirectoryState → Option FollowedSearch → HandOut
 turn_in d None = Unknown
 turn_in d (Some f) = turn_of_pending f.opened.id (pending_in d f)
 
 -- after a write: too much are more messages of later writes, or heavier ones, that are not handed
--- out than the search may have pending
+-- out than the search may have pending, or while pieces are left more identities that changed
 abbrev pub followed_after : ℕ → DirectoryState → Write → FollowedSearch → FollowedSearch
 followed_after limit d write f = record f {
-  over = f.over || (f.opened.persists && is_too_much limit d (bare_search f.opened) write f.handed);
+  over =
+      f.over
+      || is_too_much (limits_of limit) (sliced_of (with_write d write) f.opened) f.marks f.handed
+      (length d.writes);
 }
 
 -- how many messages had been handed out when a write was too much
@@ -250,7 +255,9 @@ abbrev pub opened_in : PortState → SearchOpening → PortState
 opened_in p opened = record p {
   journal = p.journal ++ (Opened opened, p.number) ∷ [];
   followed = λ n. cond (nat_eq n opened.number)
-      (Some (record { opened = opened; handed = 0; over = false })) (p.followed n);
+      (Some
+      (record { opened = opened; handed = 0; marks = opened.accepted ∷ []; over = false }))
+      (p.followed n);
 }
 
 abbrev pub accepted_in : PortState → SyncSearch → Accepted → PortState
@@ -264,11 +271,17 @@ pub record AcceptReplies
   pub answer : AnswersAccept result (answer_in p ask)
   pub state : new ≡ accepted_in p ask result
 
+-- the numbers of writes at its pieces once one of its messages more is handed out at these writes
+abbrev pub marks_in : DirectoryState → FollowedSearch → List ℕ
+marks_in d f = marks_then (sliced_of d f.opened) f.handed (length d.writes) f.marks
+
 -- one of its messages more was handed out
+abbrev pub followed_on : DirectoryState → FollowedSearch → FollowedSearch
+followed_on d f = record f { handed = f.handed + 1; marks = marks_in d f }
+
 abbrev pub handed_in : PortState → ℕ → FollowedSearch → PortState
 handed_in p number f = record p {
-  followed = λ n. cond (nat_eq n number) (Some (record f { handed = f.handed + 1 }))
-      (p.followed n);
+  followed = λ n. cond (nat_eq n number) (Some (followed_on p.directory f)) (p.followed n);
 }
 
 -- the end of a search is an entry of this port, which follows it no more
@@ -278,8 +291,13 @@ ended_in p number end = record p {
   followed = λ n. cond (nat_eq n number) None (p.followed n);
 }
 
-abbrev pub end_of : ℕ → (handed : ℕ) → FollowedSearch → ClosedSearch
-end_of number handed f = record { number = number; handed = handed; over = over_at f }
+abbrev pub end_of : ℕ → FollowedSearch → ClosedSearch
+end_of number f =
+    record { number = number; handed = f.handed; over = over_at f }
+
+-- the end of a search that its last message closes
+abbrev pub closing_of : ℕ → FollowedSearch → ClosedSearch
+closing_of number f = record (end_of number f) { handed = f.handed + 1 }
 
 -- out of memory is no turn; only a search that the port follows has a message
 abbrev pub after_turn_in : PortState → ℕ → Option FollowedSearch → Option HandOut → PortState
@@ -287,7 +305,7 @@ after_turn_in p number search None = p
 after_turn_in p number None (Some turn) = p
 after_turn_in p number (Some f) (Some (Hands message)) = handed_in p number f
 after_turn_in p number (Some f) (Some (Closes code message)) =
-    ended_in p number (end_of number (f.handed + 1) f)
+    ended_in p number (closing_of number f)
 after_turn_in p number (Some f) (Some Waits) = p
 after_turn_in p number (Some f) (Some Unknown) = p
 
@@ -321,7 +339,7 @@ pub record SeveralReplies
 
 abbrev pub dropped_in : PortState → ℕ → Option FollowedSearch → PortState
 dropped_in p number None = p
-dropped_in p number (Some f) = ended_in p number (end_of number f.handed f)
+dropped_in p number (Some f) = ended_in p number (end_of number f)
 
 pub record DropReplies
     (p : PortState) (number : ℕ) (result : Bool) (new : PortState) : Type 0 where

@@ -1,13 +1,15 @@
 -- The queue of a search that goes on after its refresh: the messages of later writes that are not
 -- handed out yet (RFC 4533, section 3.4).
-use Rattle.std.specs.Prelude.{ℕ, ◌+◌, Bool, true, cond, not, ◌&&◌, ◌||◌, nat_lt, List, [], ◌∷◌, ◌++◌, length, sum_by}
+use Rattle.std.specs.Prelude.{ℕ, ◌+◌, ◌*◌, Bool, true, false, cond, not, ◌&&◌, ◌||◌, nat_lt, List, [], ◌∷◌, ◌++◌, length, sum_by}
 use Rattle.schema_rules.specs.Attributes.{weight_of}
 use Rattle.entry_tree.specs.declared.op.Write.{Write}
 use Rattle.sync_model.specs.Message.{SyncMessage}
 use Rattle.sync_model.specs.Message.SyncMessage.{AddOrModify, Delete, Present, IdSet, NewCookie, RefreshDelete, RefreshPresent, Done, Ignored}
+use Rattle.sync_model.specs.Law.{is_nil}
 use Rattle.sync_model.specs.Stream.{group}
-use Rattle.directory_writes.specs.Directory.{DirectoryState}
-use Rattle.sync_provider.specs.Search.{SearchState, session_of}
+use Rattle.sync_slices.specs.Slices.{SlicedRefresh, QueueLimits, adds_too_much, given_up, written}
+use Rattle.directory_writes.specs.Directory.{DirectoryState, with_write}
+use Rattle.sync_provider.specs.Search.{SearchState, session_of, sliced}
 use Rattle.directory_writes.specs.Weights.{name_weight}
 
 -- ---- what it may hold
@@ -47,21 +49,36 @@ group_of d s write =
 
 -- what was pending is gone, and the end with the code busy is pending
 abbrev pub overflowed : SearchState → SearchState
-overflowed s = record s { rest = []; due = []; over = true }
+overflowed s = record s { progress = given_up s.progress; over = true }
 
--- all of these messages go after what is due, if they fit
-abbrev pub queued : ℕ → SearchState → List SyncMessage → SearchState
-queued limit s items = cond (is_full limit items) (overflowed s) (record s { due = items })
+-- what a changed identity weighs while pieces of the refresh are left
+abbrev pub changed_weight : ℕ
+changed_weight = 16
 
--- a write that sends nothing changes nothing
-abbrev pub pushed : ℕ → List SyncMessage → SearchState → SearchState
-pushed limit [] s = s
-pushed limit (message ∷ messages) s = queued limit s (s.due ++ message ∷ messages)
+-- more identities that changed than the limit, or heavier than the items of one search may be
+abbrev pub is_crowded : ℕ → ℕ → Bool
+is_crowded limit count =
+    nat_lt limit count || nat_lt most_pending_weight (count * changed_weight)
 
--- a search has a queue where it goes on after its refresh, and no write was too much
-abbrev pub is_queueing : SearchState → Bool
-is_queueing s = s.persists && not s.over
+-- so much a search may keep
+abbrev pub limits_of : ℕ → QueueLimits
+limits_of limit = record { is_full = is_full limit; is_crowded = is_crowded limit }
+
+-- the write after n writes, which is too much for the search or not
+abbrev pub noted_search :
+    (too_much : Bool) → SlicedRefresh → (before : ℕ) → SearchState → SearchState
+noted_search true r before s = overflowed s
+noted_search false r before s = record s { progress = written r before s.progress }
 
 -- the search after a write of the directory
 abbrev pub search_notified : ℕ → DirectoryState → Write → SearchState → SearchState
-search_notified limit d write s = cond (is_queueing s) (pushed limit (group_of d s write) s) s
+search_notified limit d write s =
+    cond s.over s
+    (noted_search
+    (adds_too_much (limits_of limit) (sliced (with_write d write) s) (length d.writes) s.progress)
+    (sliced (with_write d write) s) (length d.writes) s)
+
+-- a write is reported to a search, for which none was too much, where it goes on after its refresh
+-- or pieces of that are left
+abbrev pub is_noting : SearchState → Bool
+is_noting s = not s.over && (s.persists || not (is_nil s.progress.left))

@@ -1,5 +1,5 @@
 -- A search that is open (RFC 4533, sections 3.3 and 3.4).
-use Rattle.std.specs.Prelude.{ℕ, ◌<◌, ◌≤◌, pos, Bool, true, false, cond, List, [], ◌∷◌, ◌++◌, length, map, take, Option, Some, None}
+use Rattle.std.specs.Prelude.{ℕ, ◌<◌, ◌≤◌, ◌+◌, pos, Bool, true, false, cond, List, [], ◌∷◌, ◌++◌, length, map, take, Option, Some, None}
 use Rattle.ldap_constants.specs.declared.result_codes.TheConstants.{BUSY}
 use Rattle.csn_cookie.specs.Csn.{start}
 use Rattle.csn_cookie.specs.Cookie.{cookie_text}
@@ -10,6 +10,7 @@ use Rattle.entry_tree.specs.Selection.{Search}
 use Rattle.sync_model.specs.Message.{CookieText, SyncMessage}
 use Rattle.sync_model.specs.Message.SyncMessage.{AddOrModify, Delete, Present, IdSet, NewCookie, RefreshDelete, RefreshPresent, Done, Ignored}
 use Rattle.sync_model.specs.Stream.{SyncOperation, Start, RefreshPiece, walk, refresh, end_of}
+use Rattle.sync_slices.specs.Slices.{SlicedRefresh, SliceProgress, first_progress, handed_on, pending_now}
 use Rattle.directory_writes.specs.Directory.{DirectoryState, cookie_at, last_csn}
 use Rattle.sync_provider.specs.declared.refresh_item.RefreshItem.{RefreshItem}
 use Rattle.sync_provider.specs.declared.refresh_item.RefreshItem.TheVariants as part
@@ -36,28 +37,60 @@ session_of persists sid history spec writes =
 abbrev pub whole_walk : SyncOperation → Start → ℕ → List RefreshPiece
 whole_walk operation start count = record { uuids = walk operation start count; mark = count } ∷ []
 
--- its refresh where it is accepted after n writes
+-- its refresh where it is accepted after n writes, and all of its walk is decided then
 abbrev pub refresh_from : SyncOperation → Start → ℕ → List SyncMessage
 refresh_from operation start count =
     refresh operation start count (whole_walk operation start count)
 
+-- how many identities of its walk are decided at one moment: all of them
+abbrev pub decided_at_once : SyncOperation → Start → ℕ → ℕ
+decided_at_once operation start count = length (walk operation start count) + 1
+
+-- what is decided when of its refresh
+abbrev pub sliced_from : SyncOperation → Start → ℕ → SlicedRefresh
+sliced_from operation start count = record {
+  operation = operation;
+  start = start;
+  accepted = count;
+  size = decided_at_once operation start count;
+}
+
 -- ---- a search
 
 -- the message ID of its messages, its specification, where it begins, how many writes the directory
--- had at its acceptance, and whether it goes on after its refresh; what is not handed out yet of
--- its refresh, and of the messages of later writes; and whether a write did not fit, after which
--- nothing more is sent but the end
+-- had at its acceptance, and whether it goes on after its refresh; how far its pieces are decided,
+-- and what is not handed out yet of its refresh and of the messages of later writes; and whether a
+-- write did not fit, after which nothing more is sent but the end
 pub record SearchState : Type 0 where
   pub id : ℕ
   pub spec : Search
   pub start : Start
   pub accepted : ℕ
   pub persists : Bool
-  pub rest : List SyncMessage
-  pub due : List SyncMessage
+  pub progress : SliceProgress
   pub over : Bool
 
--- a search that is accepted: all of its refresh is pending
+-- its refresh over these writes of a directory with this number and this history
+abbrev pub sliced_over : (sid history : ℕ) → List Write → SearchState → SlicedRefresh
+sliced_over sid history writes s =
+    sliced_from (session_of s.persists sid history s.spec writes) s.start s.accepted
+
+abbrev pub sliced : DirectoryState → SearchState → SlicedRefresh
+sliced d s = sliced_over d.sid d.history d.writes s
+
+-- all pieces were decided at once at the acceptance, after n writes, and this is not handed out of
+-- the refresh and of later writes
+abbrev pub settled_progress : ℕ → (rest due : List SyncMessage) → SliceProgress
+settled_progress count rest due = record {
+  marks = count ∷ [];
+  left = [];
+  names = [];
+  changed = [];
+  rest = rest;
+  due = due;
+}
+
+-- a search that is accepted: its first piece is decided
 abbrev pub opening : DirectoryState → ℕ → Search → Start → (persists : Bool) → SearchState
 opening d id spec start persists = record {
   id = id;
@@ -65,8 +98,9 @@ opening d id spec start persists = record {
   start = start;
   accepted = length d.writes;
   persists = persists;
-  rest = refresh_from (session_of persists d.sid d.history spec d.writes) start (length d.writes);
-  due = [];
+  progress =
+      first_progress
+      (sliced_from (session_of persists d.sid d.history spec d.writes) start (length d.writes));
   over = false;
 }
 
@@ -74,9 +108,11 @@ opening d id spec start persists = record {
 abbrev pub busy_end : SyncMessage
 busy_end = Done (pos BUSY) None
 
--- what is handed out next, in order: the refresh, then the later writes
-abbrev pub pending : SearchState → List SyncMessage
-pending s = cond s.over (busy_end ∷ []) (s.rest ++ s.due)
+-- what is handed out next on this directory, in order, where no write comes: the refresh, then
+-- what the later writes sent
+abbrev pub pending : DirectoryState → SearchState → List SyncMessage
+pending d s =
+    cond s.over (busy_end ∷ []) (pending_now (sliced d s) (length d.writes) s.progress)
 
 -- SearchResultDone ends a search
 abbrev pub is_end : SyncMessage → Bool
@@ -90,11 +126,9 @@ is_end (RefreshPresent done cookie) = false
 is_end (Done code control) = true
 is_end Ignored = false
 
--- without the first message of these, which was handed out
-abbrev pub advanced : SearchState → (rest due : List SyncMessage) → SearchState
-advanced s (message ∷ rest) due = record s { rest = rest }
-advanced s [] (message ∷ due) = record s { due = due }
-advanced s [] [] = s
+-- without the first message, which was handed out; the pieces that it needed are decided
+abbrev pub advanced : DirectoryState → SearchState → SearchState
+advanced d s = record s { progress = handed_on (sliced d s) (length d.writes) s.progress }
 
 -- ---- the parts that it is kept by
 

@@ -8,7 +8,10 @@ use Rattle.entry_tree.specs.Selection.{Search, is_selected}
 use Rattle.sync_model.specs.Message.{CookieText, SyncMessage}
 use Rattle.sync_model.specs.Message.SyncMessage.{AddOrModify, Delete, Present, IdSet, NewCookie, RefreshDelete, RefreshPresent, Done, Ignored}
 use Rattle.sync_model.specs.Stream.{notified}
-use Rattle.sync_provider.specs.Queueing.{message_weight, is_queueing, pushed}
+use Rattle.sync_model.specs.Incremental.{about}
+use Rattle.sync_slices.specs.Slices.{grows_too_much, sends_too_much}
+use Rattle.entry_tree.specs.Touched.{joined}
+use Rattle.sync_provider.specs.Queueing.{message_weight, is_noting, limits_of, overflowed}
 use Rattle.sync_provider.specs.Search.{SearchState}
 use Rattle.sync_provider.specs.declared.content_change.ContentChange.{ContentChange}
 use Rattle.sync_provider.specs.declared.content_change.ContentChange.TheVariants.{Added, Modified, Deleted}
@@ -98,7 +101,7 @@ searches_of held = map (λ kept. (kept.0, kept.1.search)) held
 
 abbrev pub staged_for : SearchState → List EntryChange → CookieText → List SyncMessage
 staged_for s entry_changes cookie =
-    cond (is_queueing s) (messages_for s.spec entry_changes cookie) []
+    cond (is_noting s) (messages_for s.spec entry_changes cookie) []
 
 -- with the messages of one more write with these touches and this cookie
 abbrev pub with_group : List EntryChange → CookieText → HeldSearch → HeldSearch
@@ -118,9 +121,27 @@ each_staged entry_changes cookie held =
 abbrev pub each_unstaged : List (ℕ × HeldSearch) → List (ℕ × HeldSearch)
 each_unstaged held = map (λ kept. (kept.0, without_groups kept.1)) held
 
--- the messages of a write are put after what is due, unless a write was too much
+-- all of these messages go after what is due, if they fit
+abbrev pub queued : ℕ → List SyncMessage → SearchState → SearchState
+queued limit messages s =
+    cond (sends_too_much (limits_of limit) messages (s.progress.due ++ messages)) (overflowed s)
+    (record s { progress = record s.progress { due = s.progress.due ++ messages } })
+
+-- or the identities that they are about go to those that changed
+abbrev pub kept_changed : ℕ → List ℕ → SearchState → SearchState
+kept_changed limit changed s =
+    cond (grows_too_much (limits_of limit) (length s.progress.changed) (length changed))
+    (overflowed s) (record s { progress = record s.progress { changed = changed } })
+
+abbrev pub pushed_by : (left : List ℕ) → ℕ → List SyncMessage → SearchState → SearchState
+pushed_by [] limit messages s = queued limit messages s
+pushed_by (uuid ∷ uuids) limit messages s =
+    kept_changed limit (joined s.progress.changed (flat_map about messages)) s
+
+-- the messages of a write are put after what is due, or while pieces are left it is kept what it
+-- changed, unless a write was too much
 abbrev pub pushed_group : ℕ → List SyncMessage → SearchState → SearchState
-pushed_group limit messages s = cond s.over s (pushed limit messages s)
+pushed_group limit messages s = cond s.over s (pushed_by s.progress.left limit messages s)
 
 -- what was staged is put there, group by group
 abbrev pub pushed_staged : ℕ → List (List SyncMessage) → SearchState → SearchState

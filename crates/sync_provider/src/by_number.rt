@@ -22,7 +22,8 @@ impl SyncDirectory {
     /// Whether a message of the search with this number is pending.
     #[tactic(auto, using(crate::proofs::Held::turn_found, crate::proofs::Held::search_none))]
     pub(crate) fn has_message(&self, number: u64) -> bool
-        ensures { result ≡ has_message (turn_at self.now.searches number) }
+        ensures { result ≡ has_message
+            (turn_at self.now.directory self.now.searches number) }
     {
         match self.searches.get(number) {
             Some(search) => search.has_message(),

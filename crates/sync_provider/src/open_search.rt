@@ -2,14 +2,15 @@
 
 ghost use Rattle.std.specs.Prelude.{◌≡◌, ◌<◌, [], false, true, drop, Some, IfOk, IfSome, OnOk};
 ghost use Rattle.csn_cookie.specs.Cookie.{cookie_text};
+ghost use Rattle.directory_writes.specs.Directory.{DirectoryState};
 ghost use Rattle.directory_writes.specs.Starting.{start_of};
 ghost use Rattle.entry_tree.specs.Selection.{search_of};
 ghost use Rattle.sync_model.specs.Stream.{is_delete_phase};
 ghost use Rattle.sync_provider.specs.HandingOut.{turn_of, turn_of_pending, has_message, is_closing};
-ghost use Rattle.sync_provider.specs.HandingOut.{after_own_turn, without_first};
+ghost use Rattle.sync_provider.specs.HandingOut.{after_own_turn};
 ghost use Rattle.sync_provider.specs.Opened.{opening_of_search};
-ghost use Rattle.sync_provider.specs.Queueing.{is_queueing};
-ghost use Rattle.sync_provider.specs.Search.{pending, messages_of};
+ghost use Rattle.sync_provider.specs.Queueing.{is_noting};
+ghost use Rattle.sync_provider.specs.Search.{advanced, pending, messages_of, settled_progress};
 ghost use Rattle.sync_provider.specs.Staging.{first_pushed, pushed_staged, staged_for, with_group, without_groups};
 
 use crate::handed::Handed;
@@ -63,7 +64,7 @@ impl Model for OpenSearch {
     ghost use Rattle.entry_tree.specs.FilterCode.{tree_code};
     ghost use Rattle.entry_tree.specs.Selection.{search_of};
     ghost use Rattle.sync_model.specs.Stream.{is_delete_phase};
-    ghost use Rattle.sync_provider.specs.Search.{remaining_messages};
+    ghost use Rattle.sync_provider.specs.Search.{remaining_messages, settled_progress};
     ghost use Rattle.sync_provider.specs.Staging.{HeldSearch, HasRoom};
 
     ghost Value = { HeldSearch };
@@ -77,8 +78,9 @@ impl Model for OpenSearch {
         start = start_of s.start;
         accepted = s.accepted;
         persists = s.persists;
-        rest = remaining_messages s.persists (is_delete_phase (start_of s.start)) s.rest;
-        due = s.queue.items;
+        progress = settled_progress s.accepted
+            (remaining_messages s.persists (is_delete_phase (start_of s.start)) s.rest)
+            s.queue.items;
         over = s.over;
       };
       staged = map (λ messages. messages.items) s.staged.items;
@@ -117,9 +119,10 @@ impl OpenSearch {
           start = start_of asked.start;
           accepted = accepted;
           persists = asked.persists;
-          rest = messages_of asked.persists (is_delete_phase (start_of asked.start)) parts.items
-              (cookie_text cookie);
-          due = [];
+          progress = settled_progress accepted
+              (messages_of asked.persists (is_delete_phase (start_of asked.start)) parts.items
+              (cookie_text cookie))
+              [];
           over = false;
         }) }
         ensures staged { IfOk result (λ opened. opened.staged ≡ []) }
@@ -165,8 +168,8 @@ impl OpenSearch {
     }
 
     /// Whether later writes are reported to it.
-    pub(crate) fn is_queueing(&self) -> bool
-        ensures { result ≡ is_queueing self.now.search }
+    pub(crate) fn is_noting(&self) -> bool
+        ensures { result ≡ is_noting self.now.search }
     {
         self.persists && !self.over
     }
@@ -174,8 +177,8 @@ impl OpenSearch {
     /// Whether a message is pending.
     #[tactic(auto, using(crate::proofs::Turns::over_has_message, crate::proofs::Turns::rest_has_message, crate::proofs::Turns::due_has_message, crate::proofs::Journals::none_has_message))]
     pub(crate) fn has_message(&self) -> bool
-        ensures { result
-            ≡ has_message (turn_of_pending self.now.search.id (pending self.now.search)) }
+        ensures { (d : DirectoryState) → result
+            ≡ has_message (turn_of_pending self.now.search.id (pending d self.now.search)) }
     {
         if self.over {
             return true;
@@ -214,11 +217,12 @@ impl OpenSearch {
     /// The message that is pending first, which counts as handed out where it is not the last.
     #[tactic(auto, using(crate::proofs::Turns::over_turn, crate::proofs::Turns::over_has_message, crate::proofs::Turns::rest_has_message, crate::proofs::Turns::part_turn, crate::proofs::Turns::part_state, crate::proofs::Turns::end_turn, crate::proofs::Turns::end_state, crate::proofs::Turns::last_turn))]
     pub(crate) fn hand_out(&mut self) -> Handed
-        ensures turn { IfSome (turn_of result)
-            (λ turn. turn ≡ turn_of_pending self.old.search.id (pending self.old.search)) }
-        ensures memory { result ≡ Handed.NoMemory
-            → has_message (turn_of_pending self.old.search.id (pending self.old.search)) ≡ true }
-        ensures state { self.new.search ≡ after_own_turn self.old.search (turn_of result) }
+        ensures turn { (d : DirectoryState) → IfSome (turn_of result)
+            (λ turn. turn ≡ turn_of_pending self.old.search.id (pending d self.old.search)) }
+        ensures memory { (d : DirectoryState) → result ≡ Handed.NoMemory
+            → has_message (turn_of_pending self.old.search.id (pending d self.old.search)) ≡ true }
+        ensures state { (d : DirectoryState)
+            → self.new.search ≡ after_own_turn d self.old.search (turn_of result) }
     {
         if self.over {
             return match done_message(self.alloc, self.id, BUSY) {
@@ -247,13 +251,14 @@ impl OpenSearch {
     /// The first message of later writes, once the refresh is handed out.
     #[tactic(auto, using(crate::proofs::Turns::later_turn, crate::proofs::Turns::due_has_message, crate::proofs::Turns::later_state, crate::proofs::Turns::none_turn))]
     fn hand_out_later(&mut self) -> Handed
-        requires rest { self.old.search.rest ≡ [] }
+        requires rest { self.old.search.progress.rest ≡ [] }
         requires over { self.old.search.over ≡ false }
-        ensures turn { IfSome (turn_of result)
-            (λ turn. turn ≡ turn_of_pending self.old.search.id (pending self.old.search)) }
-        ensures memory { result ≡ Handed.NoMemory
-            → has_message (turn_of_pending self.old.search.id (pending self.old.search)) ≡ true }
-        ensures state { self.new.search ≡ after_own_turn self.old.search (turn_of result) }
+        ensures turn { (d : DirectoryState) → IfSome (turn_of result)
+            (λ turn. turn ≡ turn_of_pending self.old.search.id (pending d self.old.search)) }
+        ensures memory { (d : DirectoryState) → result ≡ Handed.NoMemory
+            → has_message (turn_of_pending self.old.search.id (pending d self.old.search)) ≡ true }
+        ensures state { (d : DirectoryState)
+            → self.new.search ≡ after_own_turn d self.old.search (turn_of result) }
     {
         let Some(later) = self.queue.get(0) else {
             return Handed::Nothing;
@@ -268,11 +273,11 @@ impl OpenSearch {
     /// The message with n before it of those that are pending. None is handed out.
     #[tactic(auto, using(crate::proofs::AtPlace::no_refresh, crate::proofs::AtPlace::past_left, crate::proofs::AtPlace::parts_after, crate::proofs::AtPlace::last_after, crate::proofs::AtPlace::stay_after, crate::proofs::AtPlace::refresh_has_message))]
     pub(crate) fn pending_at(&self, place: usize) -> Handed
-        ensures turn { IfSome (turn_of result) (λ turn.
-            turn ≡ turn_of_pending self.now.search.id (drop place (pending self.now.search))) }
-        ensures memory { result ≡ Handed.NoMemory
+        ensures turn { (d : DirectoryState) → IfSome (turn_of result) (λ turn.
+            turn ≡ turn_of_pending self.now.search.id (drop place (pending d self.now.search))) }
+        ensures memory { (d : DirectoryState) → result ≡ Handed.NoMemory
             → has_message
-            (turn_of_pending self.now.search.id (drop place (pending self.now.search)))
+            (turn_of_pending self.now.search.id (drop place (pending d self.now.search)))
             ≡ true }
     {
         if self.over {
@@ -299,11 +304,11 @@ impl OpenSearch {
     #[tactic(auto, using(crate::proofs::AtPlace::over_after, crate::proofs::AtPlace::over_nothing, crate::proofs::AtPlace::over_is_message))]
     fn busy_end_at(&self, place: usize) -> Handed
         requires { self.now.search.over ≡ true }
-        ensures turn { IfSome (turn_of result) (λ turn.
-            turn ≡ turn_of_pending self.now.search.id (drop place (pending self.now.search))) }
-        ensures memory { result ≡ Handed.NoMemory
+        ensures turn { (d : DirectoryState) → IfSome (turn_of result) (λ turn.
+            turn ≡ turn_of_pending self.now.search.id (drop place (pending d self.now.search))) }
+        ensures memory { (d : DirectoryState) → result ≡ Handed.NoMemory
             → has_message
-            (turn_of_pending self.now.search.id (drop place (pending self.now.search)))
+            (turn_of_pending self.now.search.id (drop place (pending d self.now.search)))
             ≡ true }
     {
         if place > 0 {
@@ -319,12 +324,13 @@ impl OpenSearch {
     /// are pending.
     #[tactic(auto, using(crate::proofs::AtPlace::due_after, crate::proofs::AtPlace::due_nothing, crate::proofs::AtPlace::due_is_message))]
     fn later_at(&self, place: usize, after: usize) -> Handed
-        requires { drop place (pending self.now.search) ≡ drop after self.now.search.due }
-        ensures turn { IfSome (turn_of result) (λ turn.
-            turn ≡ turn_of_pending self.now.search.id (drop place (pending self.now.search))) }
-        ensures memory { result ≡ Handed.NoMemory
+        requires { (d : DirectoryState)
+            → drop place (pending d self.now.search) ≡ drop after self.now.search.progress.due }
+        ensures turn { (d : DirectoryState) → IfSome (turn_of result) (λ turn.
+            turn ≡ turn_of_pending self.now.search.id (drop place (pending d self.now.search))) }
+        ensures memory { (d : DirectoryState) → result ≡ Handed.NoMemory
             → has_message
-            (turn_of_pending self.now.search.id (drop place (pending self.now.search)))
+            (turn_of_pending self.now.search.id (drop place (pending d self.now.search)))
             ≡ true }
     {
         let Some(later) = self.queue.get(after) else {
@@ -339,8 +345,8 @@ impl OpenSearch {
     /// Whether the message that is pending first is the last one.
     #[tactic(auto, using(crate::proofs::AtPlace::over_closes, crate::proofs::AtPlace::refresh_closes, crate::proofs::AtPlace::due_closes, crate::proofs::AtPlace::none_closes))]
     pub(crate) fn is_ending(&self) -> bool
-        ensures { result ≡ is_closing
-            (Some (turn_of_pending self.now.search.id (pending self.now.search))) }
+        ensures { (d : DirectoryState) → result ≡ is_closing
+            (Some (turn_of_pending self.now.search.id (pending d self.now.search))) }
     {
         if self.over {
             return true;
@@ -357,7 +363,7 @@ impl OpenSearch {
     /// The message that is pending first counts as handed out. It takes no memory.
     #[tactic(auto, using(crate::proofs::Turns::part_state, crate::proofs::Turns::end_state, crate::proofs::AtPlace::popped))]
     pub(crate) fn advance(&mut self)
-        ensures { self.new.search ≡ without_first self.old.search }
+        ensures { (d : DirectoryState) → self.new.search ≡ advanced d self.old.search }
     {
         let Some(rest) = &mut self.rest else {
             let _ = self.queue.pop();
@@ -409,7 +415,7 @@ impl OpenSearch {
         ensures { IfOk result (λ messages.
             messages.items ≡ staged_for self.now.search touched.now (cookie_text cookie)) }
     {
-        if self.is_queueing() {
+        if self.is_noting() {
             messages_for(self.alloc, &self.spec, touched, cookie)
         } else {
             Ok(Vec::new(self.alloc))

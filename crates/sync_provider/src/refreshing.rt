@@ -1,6 +1,6 @@
 //! The refresh of a search, decided at one moment (RFC 4533, section 3.3).
 
-ghost use Rattle.std.specs.Prelude.{◌≡◌, Bool, length, map, IfOk, OnOk};
+ghost use Rattle.std.specs.Prelude.{◌≡◌, Bool, [], length, map, IfOk, OnOk};
 ghost use Rattle.std.specs.List.Sorted.{IsStrictlySortedBy};
 ghost use Rattle.std.specs.Ordering.{nat_cmp};
 ghost use Rattle.entry_tree.specs.Selection.{search_of};
@@ -10,7 +10,8 @@ ghost use Rattle.directory_writes.specs.Directory.{cookie_of, entries_of};
 ghost use Rattle.sync_provider.specs.Gathering.{Gathers, AreOf};
 ghost use Rattle.sync_provider.specs.Refreshing as refreshing;
 ghost use Rattle.directory_writes.specs.Starting.{start_of, CanBegin};
-ghost use Rattle.sync_provider.specs.Search.{messages_of, session_of, refresh_from};
+ghost use Rattle.sync_provider.specs.Search.{messages_of, session_of, settled_progress, sliced_from};
+ghost use Rattle.sync_slices.specs.Slices.{first_progress};
 
 use crate::NoMemory;
 use crate::gathering::Gathering;
@@ -32,12 +33,15 @@ pub(crate) fn refresh(
 ) -> Result<Vec<RefreshItem>, NoMemory>
     requires { CanBegin directory.now.state (start_of start) }
     ensures { IfOk result (λ parts. (persists : Bool)
-        → messages_of persists (is_delete_phase (start_of start)) parts.items
-        (cookie_of directory.now.state)
-        ≡ refresh_from
+        → settled_progress (length directory.now.state.writes)
+        (messages_of persists (is_delete_phase (start_of start)) parts.items
+        (cookie_of directory.now.state))
+        []
+        ≡ first_progress
+        (sliced_from
         (session_of persists directory.now.state.sid directory.now.state.history
         (search_of spec.now) directory.now.state.writes)
-        (start_of start) (length directory.now.state.writes)) }
+        (start_of start) (length directory.now.state.writes))) }
 {
     let uuids = walk(alloc, directory, start)?;
     let items = items(alloc, directory, spec, uuids.as_slice())?;

@@ -108,9 +108,12 @@ impl SyncDirectory {
     #[tactic(auto, using(crate::proofs::AtPlace::found_after, crate::proofs::AtPlace::none_after, crate::proofs::AtPlace::found_is_message))]
     pub fn pending_at(&self, number: u64, place: usize) -> Handed
         ensures turn { IfSome (handing.turn_of result)
-            (λ turn. turn ≡ handing.turn_at_place self.now.searches number place) }
+            (λ turn. turn
+            ≡ handing.turn_at_place self.now.directory self.now.searches number place) }
         ensures memory { result ≡ Handed.NoMemory
-            → handing.has_message (handing.turn_at_place self.now.searches number place) ≡ true }
+            → handing.has_message
+            (handing.turn_at_place self.now.directory self.now.searches number place)
+            ≡ true }
     {
         match self.searches.get(number) {
             Some(search) => search.pending_at(place),

@@ -1,7 +1,7 @@
 -- One piece more: a search stays at its place, and what is pending stays.
 use Rattle.std.proofs.Common.{◌≡◌, ℕ, zero, suc, ◌+◌, ◌-◌, ◌<◌, ◌≤◌, Bool, true, false, cond, nat_lt, List, [], ◌∷◌, ◌++◌, length, take, drop, refl, ap, sym, ◌∙◌, arith, inl, inr, ◌⊎◌, subst, append_assoc, append-nil, length-append, length-drop, take-append-drop}
-use Rattle.std.specs.Prelude.{not, ◌||◌, flat_map}
-use Rattle.std.proofs.lemmas.Bool.{true≢false, false≢true, or_parts, lt-ltb, le-ltb}
+use Rattle.std.specs.Prelude.{not, ◌||◌}
+use Rattle.std.proofs.lemmas.Bool.{true≢false, or_parts, lt-ltb, le-ltb}
 use Rattle.std.proofs.lemmas.Grind.{flat_map-append}
 use Rattle.entry_tree.specs.History.{differing_over}
 use Rattle.sync_model.specs.Law.{MarksRise, is_nil}
@@ -21,10 +21,6 @@ none_either false = refl
 -- what is not empty is not
 pub some_left : {X : Type 0} (xs : List X) → is_nil xs ≡ false → xs ≡ [] → ⊥
 some_left xs some none = true≢false (sym (ap is_nil none) ∙ some)
-
-pub nil_is : {X : Type 0} (xs : List X) → is_nil xs ≡ true → xs ≡ []
-nil_is [] h = refl
-nil_is (x ∷ xs) h = absurd (false≢true h)
 
 -- there is a message of the refresh, or none is left to decide
 abbrev pub is_ready : SliceProgress → Bool
@@ -208,6 +204,7 @@ module _ (r : SlicedRefresh) where
     by (inl walks) = walks.1
     by (inr settled) = absurd (some_left s.left some settled.0)
 
+  -- a search that is made ready is at its place still
   pub ready_is : (most now : ℕ) (s : SliceProgress) (handed handed_later : List SyncMessage) → IsAt r now s handed handed_later → IsAt r now (ready_from most r now s) handed handed_later
   ready_is zero now s handed handed_later at = at
   ready_is (suc most) now s handed handed_later at =
@@ -219,6 +216,7 @@ module _ (r : SlicedRefresh) where
       step true e go = at
       step false e go = go (walking_there now s handed handed_later at (unready s e))
 
+  -- and the same is pending of it
   pub ready_pending : (most now : ℕ) (s : SliceProgress) → pending_now r now (ready_from most r now s) ≡ pending_now r now s
   ready_pending zero now s = refl
   ready_pending (suc most) now s = step (is_ready s) refl (ready_pending most now (with_next r now s))
@@ -233,6 +231,7 @@ module _ (r : SlicedRefresh) where
   fewer some [] h = absurd (true≢false h)
   fewer some (u ∷ us) h = let gone : length (drop r.size (u ∷ us)) ≡ length (u ∷ us) - r.size = length-drop r.size (u ∷ us) in omega (arith, some, gone)
 
+  -- after as many pieces as there are identities it is ready
   pub ready_there : 0 < r.size → (most now : ℕ) (s : SliceProgress) → length s.left ≤ most → is_ready (ready_from most r now s) ≡ true
   ready_there some zero now s few = by s.left few where
     by : (us : List ℕ) → length us ≤ 0 → (is_nil us || not (is_nil s.rest)) ≡ true
@@ -281,6 +280,7 @@ module _ (r : SlicedRefresh) where
           ap (λ us. is_nil us || not (is_nil s.rest)) settled.0
           ∙ sym (ap (λ us. is_nil us || nat_lt count (length (settled_by us r s.marks))) (sym at.marked.left ∙ settled.0))
 
+  -- the pieces that make it ready have the numbers that counts alone give
   pub ready_marks : (most now : ℕ) (s : SliceProgress) (handed handed_later : List SyncMessage) (count : ℕ) → IsAt r now s handed handed_later → count ≡ length handed + length handed_later
       → (ready_from most r now s).marks ≡ marks_from most r count now s.marks
   ready_marks zero now s handed handed_later count at counted = refl

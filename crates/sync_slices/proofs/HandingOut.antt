@@ -6,9 +6,10 @@ use Rattle.std.proofs.Math.Bool.{or-false}
 use Rattle.sync_model.specs.Law.{is_nil}
 use Rattle.sync_model.specs.Message.{SyncMessage}
 use Rattle.sync_model.proofs.Groups.{heads, tails}
+use Rattle.sync_model.proofs.Prefixes.{nil_is}
 use Rattle.sync_slices.specs.Law.{IsAt, IsWalking, IsSettled}
 use Rattle.sync_slices.specs.Slices.{SlicedRefresh, SliceProgress, marks_then, coming_by, pending_now, ready_from, made_ready, without_first, handed_on}
-use Rattle.sync_slices.proofs.Deciding.{some_left, nil_is, is_ready, ready_is, ready_pending, ready_there, made_marks}
+use Rattle.sync_slices.proofs.Deciding.{some_left, is_ready, ready_is, ready_pending, ready_there, made_marks}
 use Rattle.sync_slices.proofs.Streams.{pending_some}
 
 -- a search of which these were handed out and then one more is at its place

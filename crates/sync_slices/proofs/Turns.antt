@@ -255,5 +255,6 @@ module _ (r : SlicedRefresh) (some : 0 < r.size) where
   pub moment_is : (turns : List SliceTurn) → IsMoment r (turned_all r (first_moment r) turns) (tallied_all r (first_tally r) turns)
   moment_is turns = all_moments turns (first_moment r) (first_tally r) first_moment_is
 
+  -- what was handed out, and what is pending, is a stream up to the writes so far, or a prefix of one
   pub slices_deliver : (turns : List SliceTurn) → Delivers r (turned_all r (first_moment r) turns) (tallied_all r (first_tally r) turns)
   slices_deliver turns = delivers (turned_all r (first_moment r) turns) (tallied_all r (first_tally r) turns) (moment_is turns)

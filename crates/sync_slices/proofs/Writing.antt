@@ -46,6 +46,7 @@ module _ (r : SlicedRefresh) where
     marked_then : IsMarked r (now + 1) s.marks s.left
     marked_then = record { low = omega (arith, at.marked.low); last = omega (arith, at.marked.last); rises = at.marked.rises; left = at.marked.left }
 
+    -- a write keeps a search at its place
     pub write_is : IsAt r (now + 1) (written r now s) handed handed_later
     write_is = by s.left refl at.place
       where

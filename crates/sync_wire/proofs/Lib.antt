@@ -11,3 +11,4 @@ pub mod Sizes
 pub mod OperationalAttributes
 pub mod Notified
 pub mod Operations
+pub mod UuidTexts

@@ -1,6 +1,9 @@
+pub mod DrillEnds
+pub mod DrillForms
 pub mod EndedServing
 pub mod Ending
 pub mod Forms
+pub mod NumberWords
 pub mod SearchEnds
 pub mod SearchForms
 pub mod ServedReady

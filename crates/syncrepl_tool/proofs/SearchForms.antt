@@ -1,16 +1,16 @@
 -- The words of `search`.
-use Rattle.std.proofs.Common.{◌≡◌, ◌≤◌, ◌<◌, ◌-◌, ◌^◌, ℕ, Bool, true, false, List, [], ◌∷◌, Option, Some, None, Result, Ok, drop, get_or, length, length-drop, take, take_all, string_bytes, codes, inl, inr, refl, sym, ap, subst, ◌∙◌, arith}
+use Rattle.std.proofs.Common.{◌≡◌, ◌≤◌, ◌-◌, ℕ, Bool, true, false, List, [], ◌∷◌, Option, Some, None, drop, get_or, length, length-drop, take, take_all, string_bytes, codes, inl, inr, refl, sym, ap, subst, ◌∙◌, arith}
 use Rattle.std.proofs.lemmas.Bool.{false≢true}
-use Rattle.std.proofs.lemmas.Fmt.{decimal_injective, parse-decimal}
-use Rattle.std.specs.Fmt.{decimal}
-use Rattle.std.specs.Str.Parse.{ParsesUnsigned}
 use Rattle.std.specs.declared.alloc.Global.{Global}
 use Rattle.std.specs.declared.string.String.{String}
 use Rattle.entry_tree.specs.declared.spec.Scope.{Scope}
 use Rattle.entry_tree.specs.declared.spec.Scope.TheVariants.{Base, One, Sub}
+use Rattle.drill_plan.specs.declared.plan.DrillPlan.{DrillPlan}
 use Rattle.syncrepl_tool.specs.Cascade.{IsCascade, IsForm}
+use Rattle.syncrepl_tool.specs.DrillWords.{IsDrill}
 use Rattle.syncrepl_tool.specs.Searching.{IsAskedBy, IsCount, IsSearch, IsSearchStatus, SearchAsked, scope_text}
 use Rattle.syncrepl_tool.specs.Serve.{IsServe, IsServeStatus}
+use Rattle.syncrepl_tool.proofs.NumberWords.{same_number}
 
 -- ---- no words are of two forms
 
@@ -43,12 +43,13 @@ not_two_served code (inr (inr (inl four))) two = omega (arith, four, two)
 not_two_served code (inr (inr (inr (inl seven)))) two = omega (arith, seven, two)
 not_two_served code (inr (inr (inr (inr eight)))) two = omega (arith, eight, two)
 
--- words of none of the three forms
+-- words of none of the four forms
 pub no_form : (words : List (String Global)) (cascade : Bool) → (IsCascade words → cascade ≡ true) → cascade ≡ false → ((name : List ℕ) → IsServe words name → ⊥)
-    → ((asked : SearchAsked) → IsSearch words asked → ⊥) → IsForm words → ⊥
-no_form words cascade tested other unserved unasked (inl is) = false≢true (sym other ∙ tested is)
-no_form words cascade tested other unserved unasked (inr (inl serve)) = unserved serve.0 serve.1
-no_form words cascade tested other unserved unasked (inr (inr asks)) = unasked asks.0 asks.1
+    → ((plan : DrillPlan) → IsDrill words plan → ⊥) → ((asked : SearchAsked) → IsSearch words asked → ⊥) → IsForm words → ⊥
+no_form words cascade tested other unserved undrilled unasked (inl is) = false≢true (sym other ∙ tested is)
+no_form words cascade tested other unserved undrilled unasked (inr (inl serve)) = unserved serve.0 serve.1
+no_form words cascade tested other unserved undrilled unasked (inr (inr (inl asks))) = unasked asks.0 asks.1
+no_form words cascade tested other unserved undrilled unasked (inr (inr (inr drill))) = undrilled drill.0 drill.1
 
 -- ---- they ask for one search
 
@@ -67,9 +68,6 @@ same_scope Sub Base same = let first : 115 ≡ 98 = ap first_of same in absurd (
 same_scope Sub One same = let first : 115 ≡ 111 = ap first_of same in absurd (omega (arith, first))
 same_scope Sub Sub same = refl
 
-small : (n : ℕ) → n ≤ 1000 → n < 2 ^ 64
-small n within = omega (arith, within)
-
 same_count : (more : List (String Global)) (one other : Option ℕ) → IsCount more one → IsCount more other → one ≡ other
 same_count [] None None first second = refl
 same_count [] None (Some other) first second = absurd second
@@ -77,7 +75,7 @@ same_count [] (Some one) other first second = absurd first
 same_count (word ∷ []) None other first second = absurd first
 same_count (word ∷ []) (Some one) None first second = absurd second
 same_count (word ∷ []) (Some one) (Some other) first second =
-    ap (λ (n : ℕ). Some n) (decimal_injective one other (small one first.1) (small other second.1) (sym first.2 ∙ second.2))
+    ap (λ (n : ℕ). Some n) (same_number (string_bytes word) 1 1000 one other (omega arith) first second)
 same_count (word ∷ next ∷ words) one other first second = absurd first
 
 abbrev asking : List ℕ → List ℕ → Scope → List ℕ → Option ℕ → SearchAsked
@@ -135,21 +133,3 @@ search_is (v ∷ w ∷ x ∷ y ∷ z ∷ words) word address base scope filter m
       (asked_as a (string_bytes w) b (string_bytes x) s (string_bytes y) f (string_bytes z) more asked
       (p ∙ bytes_same address w at1) (q ∙ bytes_same base x at2) (r ∙ bytes_same scope y at3) (t ∙ bytes_same filter z at4) is),
 )
-
--- ---- the number of cookies
-
--- a word that writes a number is read as that number
-pub number_read : {E : Type 0} (text : List ℕ) (result : Result ℕ E) (n : ℕ) → n ≤ 1000 → text ≡ decimal n → ParsesUnsigned 64 10 text result → result ≡ Ok n
-number_read text result n within is parses = parse-decimal 64 n text result (omega (arith, within)) (omega (arith, within)) is parses
-
-same_number : {E : Type 0} (result : Result ℕ E) (found n : ℕ) → result ≡ Ok found → result ≡ Ok n → found ≡ n
-same_number result found n one other = cc
-
--- a word that is read as a number that it does not write so, or that is too great, writes none
-pub not_counted : {E : Type 0} (text : List ℕ) (result : Result ℕ E) (found : ℕ) (counts : Bool) → result ≡ Ok found → ParsesUnsigned 64 10 text result
-    → ((1 ≤ found) × (found ≤ 1000) × (text ≡ decimal found) → counts ≡ true) → counts ≡ false → (n : ℕ) → 1 ≤ n → n ≤ 1000 → text ≡ decimal n → ⊥
-not_counted text result found counts read parses wrote other n low high is =
-    let same : found ≡ n = same_number result found n read (number_read text result n high is parses) in
-    let written : text ≡ decimal found = is ∙ ap decimal (sym same) in
-    let counted : counts ≡ true = wrote (omega (arith, low, same), omega (arith, high, same), written) in
-    absurd (false≢true (sym other ∙ counted))

@@ -2,7 +2,7 @@
 use Rattle.std.proofs.Common.{◌≡◌, ◌≢◌, ℕ, List, Result, Ok, Err, inl, inr, refl, arith}
 use Rattle.cascade_script.specs.Reader.{reader_of}
 use Rattle.cascade_world.specs.World.{WorldState, no_nodes}
-use Rattle.std.specs.Prelude.{◌⊎◌, IfOk, OnErr}
+use Rattle.std.specs.Prelude.{◌⊎◌, IfOk}
 use Rattle.sync_io.specs.Faults.{CountHasRisen}
 use Rattle.syncrepl_tool.proofs.Ending.{done_of, end_of, quiet_of, refused_of, no_script_of, no_read_fault, write_fault_of}
 use Rattle.syncrepl_tool.specs.Cascade.{IsPrefixOf, IsRefusedStatus, MayEndWith, RunEnds, Streams}
@@ -74,11 +74,6 @@ of_ends before after end status first_part ends reads writes = record {
 }
 
 -- ---- whatever was answered
-
--- what holds anyway holds where memory ran out
-pub holds_anyway : {T E P : Type 0} (result : Result T E) → P → OnErr result P
-holds_anyway (Ok value) holds = tt
-holds_anyway (Err memory) holds = holds
 
 -- two facts of an answer are one
 pub both_hold : {T E : Type 0} (result : Result T E) (P Q : T → Type 0) → IfOk result P → IfOk result Q → IfOk result (λ value. P value × Q value)

@@ -18,6 +18,8 @@ use Rattle.cascade_world.specs.ReportLines.{ReportLine, lines_text, report_text}
 use Rattle.cascade_laws.specs.Run.{Runs, IsRefusal, IsScript, AreHeld}
 use Rattle.cascade_world.specs.Trace.{AreTraced, all_lines}
 use Rattle.cascade_world.specs.World.{WorldState, no_nodes}
+use Rattle.drill_plan.specs.declared.plan.DrillPlan.{DrillPlan}
+use Rattle.syncrepl_tool.specs.DrillWords.{IsDrill, IsDrillStatus}
 use Rattle.syncrepl_tool.specs.Searching.{IsSearch, IsSearchStatus, SearchAsked}
 use Rattle.syncrepl_tool.specs.Serve.{IsServe, IsServeStatus}
 use Rattle.syncrepl_tool.specs.Texts.{Says, refusal_text, read_fault_text, write_fault_text}
@@ -164,6 +166,7 @@ abbrev pub IsForm : List (String Global) → Type 0
 IsForm words =
     IsCascade words ⊎ ((name : List ℕ) × IsServe words name)
     ⊎ ((asked : SearchAsked) × IsSearch words asked)
+    ⊎ ((plan : DrillPlan) × IsDrill words plan)
 
 -- a status with which words of this form may end, or 2 for words of none
 abbrev pub IsStatus : List (String Global) → ℕ → Type 0
@@ -172,6 +175,7 @@ IsStatus words code =
     ⊎ (IsCascade words × IsCascadeStatus code)
     ⊎ ((name : List ℕ) × IsServe words name × IsServeStatus code)
     ⊎ ((asked : SearchAsked) × IsSearch words asked × IsSearchStatus code)
+    ⊎ ((plan : DrillPlan) × IsDrill words plan × IsDrillStatus code)
 
 -- a script without a refusal is done, and any other text is refused
 pub record Decides (code : ℕ) (text : List ℕ) : Type 0 where

@@ -1,4 +1,6 @@
 pub mod Cascade
+pub mod DrillWords
+pub mod Numbers
 pub mod Searching
 pub mod SearchWords
 pub mod Serve

@@ -1,6 +1,5 @@
 -- What `search ADDRESS BASE SCOPE FILTER [COUNT]` asks, prints and says.
-use Rattle.std.specs.Prelude.{◌≡◌, ◌≢◌, ◌⊎◌, ◌≤◌, ℕ, Bool, false, nat_eq, List, [], ◌∷◌, ◌++◌, Option, Some, None, Result, Ok, Err, IfOk, OnErr, codes}
-use Rattle.std.specs.Fmt.{decimal}
+use Rattle.std.specs.Prelude.{◌≡◌, ◌≢◌, ◌⊎◌, ℕ, Bool, false, nat_eq, List, [], ◌∷◌, ◌++◌, Option, Some, None, Result, Ok, Err, IfOk, OnErr, codes}
 use Rattle.std.specs.Io.KnownBytes.{Keeps}
 use Rattle.std.specs.List.{starts_with}
 use Rattle.std.specs.String.{string_bytes}
@@ -24,6 +23,7 @@ use Rattle.ldap_search.specs.declared.end.SearchEnd.TheVariants.{Done, OutputFau
 use Rattle.sync_io.specs.Dial.{Dialled}
 use Rattle.sync_io.specs.Faults.{CountHasRisen}
 use Rattle.sync_io.specs.Net.{Served}
+use Rattle.syncrepl_tool.specs.Numbers.{IsNumber}
 use Rattle.syncrepl_tool.specs.Serve.{net_fault_text}
 use Rattle.syncrepl_tool.specs.Texts.{Says, write_fault_text}
 use Rattle.syncrepl_tool.specs.declared.run.Status.{Status}
@@ -52,13 +52,12 @@ scope_text Sub = codes "sub"
 abbrev pub IsWord : (word text : List ℕ) → Type 0
 IsWord word text = (word ≡ text) × (has_dash text ≡ false)
 
--- the number of cookies, 1 to 1,000, in decimal digits without a leading zero
+-- the number of cookies, 1 to 1,000
 abbrev pub IsCount : List (String Global) → Option ℕ → Type 0
 IsCount [] None = Unit {0}
 IsCount [] (Some count) = ⊥
 IsCount (word ∷ []) None = ⊥
-IsCount (word ∷ []) (Some count) =
-    (1 ≤ count) × (count ≤ 1000) × (string_bytes word ≡ decimal count)
+IsCount (word ∷ []) (Some count) = IsNumber (string_bytes word) 1 1000 count
 IsCount (word ∷ other ∷ words) count = ⊥
 
 -- what the words after the first one ask for

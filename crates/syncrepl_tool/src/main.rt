@@ -1,11 +1,16 @@
-//! `syncrepl`: an LDAP directory with replication by content synchronisation, driven by a script or
-//! served over a net; and a client that searches one.
+//! `syncrepl`: an LDAP directory with replication by content synchronisation, driven by a script,
+//! drilled by threads or served over a net; and a client that searches one.
 #![tactic(auto)]
 
 #[cfg(test)]
 mod cut_tests;
 #[cfg(test)]
+mod drill_tests;
+mod drill_words;
+mod drilling;
+#[cfg(test)]
 mod following_tests;
+mod numbers;
 mod run;
 #[cfg(test)]
 mod search_tests;

@@ -12,7 +12,11 @@ ghost use Rattle.ldap_listener.specs.Sessions.{seen_by};
 ghost use Rattle.syncrepl_tool.specs.Serve.{EndsServing, IsServe, outside};
 ghost use Rattle.syncrepl_tool.specs.Searching.{EndsSearch, IsNoSearch, IsSearch, SearchAsked, search_side};
 ghost use Rattle.ldap_client.specs.Links.{link_by};
+ghost use Rattle.drill_plan.specs.declared.plan.DrillPlan.{DrillPlan};
+ghost use Rattle.syncrepl_tool.specs.DrillWords.{EndsDrill, IsDrill, IsNoDrill, drill_side};
 
+use crate::drill_words::drill_words;
+use crate::drilling::run_drill;
 use crate::search_words::search_words;
 use crate::searching::search_for;
 use crate::serve::serve_with;
@@ -68,7 +72,8 @@ pub fn run<
     // line. A search is refused with e-syncRefreshRequired exactly where the consumer's cookie is
     // in its way. Each consumer is what the lines of its messages make of it. Each event gives the
     // lines that belong to it, and no others. The world is left as these events leave it.
-    ensures headline { IsNoSearch words.now → IfSome (I.bytes_left input.old) (λ text.
+    ensures headline { IsNoSearch words.now → IsNoDrill words.now
+        → IfSome (I.bytes_left input.old) (λ text.
         WritesPrefix (reader_of text) (O.bytes_held output.old) (O.bytes_held output.new)
         world.new) }
 
@@ -117,6 +122,17 @@ pub fn run<
     ensures unread { (asked : SearchAsked) → IsSearch words.now asked
         → (world.new ≡ world.old) × (input.new ≡ input.old) × (shelf.new ≡ shelf.old)
         × (random.new ≡ random.old) }
+    // A drill is done at a directory of its own, and what it prints depends on its words alone.
+    ensures drills { (plan : DrillPlan) → IsDrill words.now plan → EndsDrill plan
+        (drill_side (O.bytes_held output.old) (O.write_fault_count output.old)
+        (E.bytes_held errors.old) (E.write_fault_count errors.old))
+        (drill_side (O.bytes_held output.new) (O.write_fault_count output.new)
+        (E.bytes_held errors.new) (E.write_fault_count errors.new))
+        result }
+    // It reads no input, no file and no random word, and needs no net.
+    ensures by_itself { (plan : DrillPlan) → IsDrill words.now plan
+        → (world.new ≡ world.old) × (input.new ≡ input.old) × (shelf.new ≡ shelf.old)
+        × (net.new ≡ net.old) × (random.new ≡ random.old) }
     // A script is run without files, a net and random words.
     ensures alone { IsCascade words.now
         → (shelf.new ≡ shelf.old) × (net.new ≡ net.old) × (random.new ≡ random.old) }
@@ -155,6 +171,9 @@ pub fn run<
         return serve_with(
             rt, alloc, name, errors, shelf, net, clock, random, &OpenGate,
         );
+    }
+    if let Some(plan) = drill_words(words) {
+        return run_drill(rt, alloc, &plan, output, errors);
     }
     match search_words(words) {
         Some(asked) => search_for(rt, alloc, asked, output, errors, net),

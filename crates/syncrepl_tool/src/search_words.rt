@@ -1,12 +1,11 @@
 //! The words of `search`.
 
-ghost use Rattle.std.specs.Prelude.{◌≡◌, ◌↔◌, ◌<◌, ◌≤◌, ℕ, Option, IfNone, IfSome, IsTrue};
-ghost use Rattle.std.specs.Fmt.{decimal};
+ghost use Rattle.std.specs.Prelude.{◌≡◌, ◌<◌, ℕ, Option, IfNone, IfSome};
 ghost use Rattle.syncrepl_tool.specs.Searching.{IsAskedBy, IsCount, IsSearch, SearchAsked, has_dash, scope_text};
 ghost use Rattle.syncrepl_tool.specs.SearchWords.{asked_by};
 
+use crate::numbers::number_of;
 use entry_tree::Scope;
-use itoa::Buffer;
 
 /// The most stored cookies that a search may wait for.
 const MOST_COOKIES: u64 = 1_000;
@@ -115,35 +114,10 @@ fn count_of(words: &[String]) -> Option<Option<u64>>
 {
     match words {
         [] => Some(None),
-        [word] => match number_of(word.as_str()) {
+        [word] => match number_of(word.as_str(), 1, MOST_COOKIES) {
             Some(number) => Some(Some(number)),
             None => None,
         },
         _ => None,
     }
-}
-
-/// The number that a word writes in decimal digits without a leading zero, 1 to 1,000.
-fn number_of(word: &str) -> Option<u64>
-    ensures some { IfSome result (λ number.
-        (1 ≤ number) × (number ≤ 1000) × (word.now ≡ decimal number)) }
-    ensures none { IfNone result ((number : ℕ)
-        → 1 ≤ number → number ≤ 1000 → word.now ≡ decimal number → ⊥) }
-{
-    let Ok(number) = word.parse::<u64>() else {
-        return None;
-    };
-    if is_count(word, number) {
-        return Some(number);
-    }
-    None
-}
-
-/// Whether a word writes this number in decimal digits without a leading zero, and it is 1 to 1,000.
-fn is_count(word: &str, number: u64) -> bool
-    ensures { IsTrue result
-        ↔ ((1 ≤ number) × (number ≤ 1000) × (word.now ≡ decimal number)) }
-{
-    let mut buffer = Buffer::new();
-    1 <= number && number <= MOST_COOKIES && buffer.format(number) == word
 }

@@ -29,7 +29,7 @@ const USAGE: &[u8] =
     b"usage: syncrepl cascade | drill SEED WRITERS CONSUMERS SIZE | serve FILE | search ADDRESS BASE SCOPE FILTER [COUNT]\n";
 
 /// The status of a run of these words, and what it said.
-fn ran<R: Threads + Wait + Sync, I: Source, O: Sink>(
+pub(crate) fn ran<R: Threads + Wait + Sync, I: Source, O: Sink>(
     rt: &R,
     alloc: Global,
     words: &[&str],
@@ -67,7 +67,12 @@ fn given(alloc: Global, words: &[&str]) -> Result<Vec<String>, NoMemory> {
 }
 
 /// Asserts that what was found is what is wanted, or reports both.
-fn assert_same<T: PartialEq + Debug>(rt: &impl Abort, part: &str, found: &T, wanted: &T) {
+pub(crate) fn assert_same<T: PartialEq + Debug>(
+    rt: &impl Abort,
+    part: &str,
+    found: &T,
+    wanted: &T,
+) {
     assert!(rt;
         *found == *wanted,
         "{part}: {found:?} in place of {wanted:?}"
@@ -224,7 +229,8 @@ fn other_words_are_refused(rt: HostRuntime) -> Result<(), Fail> {
     Ok(())
 }
 
-fn assert_usage<R: Threads + Wait + Sync + Abort>(
+/// Asserts that these words are of no form.
+pub(crate) fn assert_usage<R: Threads + Wait + Sync + Abort>(
     rt: &R,
     alloc: Global,
     words: &[&str],

@@ -1,5 +1,6 @@
 -- The table as it is made, and as it is closed.
 use Rattle.std.proofs.Common.{◌≡◌, ◌≢◌, ℕ, ◌<◌, ◌≤◌, List, [], ◌∷◌, length, Option, Some, IfSome, sym, refl, ap, ◌∙◌, subst, ⊎_elim, inl, arith, append-nil}
+use Rattle.std.proofs.lemmas.Option.{none-some}
 use mathlib.Core.Option.{none, some, some-injective, some-ne-none}
 use lib.ListN.{get_elem?}
 use Rattle.atomic_table.specs.Table.{State, opening, Seen, Final}
@@ -9,7 +10,6 @@ use Rattle.turn_cell.specs.Journals.{HasGrown}
 use Rattle.turn_cell.specs.Rule.{idle, dealer, HasSeen, HaveSeen, Fits, TakesTurns}
 use Rattle.turn_cell.proofs.Sums.{each-snoc, two-le-total}
 use Rattle.turn_cell.proofs.Numbers.{new_passes-once, new_passes-length, new_passes-numbers, new_passes-every}
-use Rattle.turn_cell.proofs.Tickets.{none-some}
 
 -- the rule holds of a table as it is made
 pub opens : {D N X : Type 0} (journal : D → List (N × ℕ)) (share : D → ℕ → List X) (seats : ℕ) (value : D)

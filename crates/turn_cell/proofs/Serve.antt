@@ -1,7 +1,7 @@
 -- A seat with a ticket reads which ticket is served.
 use Rattle.std.proofs.Common.{◌≡◌, ◌≢◌, ℕ, ◌%◌, ◌^◌, ◌<◌, List, [], ◌∷◌, set, get_or, Option, Some, IfSome, sym, refl, ap, ◌∙◌, subst, ⊎_elim, inr, arith, le_refl}
 use Rattle.std.proofs.lemmas.Bool.{cases_eq}
-use Rattle.std.proofs.lemmas.Option.{IfSome_then}
+use Rattle.std.proofs.lemmas.Option.{IfSome_then, none-some}
 use mathlib.Core.Option.{none, some, some-injective}
 use lib.ListN.{get_elem?}
 use Rattle.atomic_table.specs.Table.{State, Act, step, keeps, takes, stepped, Allows, Valid, carried_after}
@@ -11,7 +11,7 @@ use Rattle.turn_cell.specs.declared.table.SeatView.{SeatView}
 use Rattle.turn_cell.specs.Rule.{tickets_at, waiting, in_turn, Fits, TakesTurns}
 use Rattle.turn_cell.specs.Steps.{Serves}
 use Rattle.turn_cell.proofs.Sums.{each-set, place-low}
-use Rattle.turn_cell.proofs.Tickets.{dealt-set, apart-set, none-some, few_tickets, one_seat}
+use Rattle.turn_cell.proofs.Tickets.{dealt-set, apart-set, few_tickets, one_seat}
 
 module _ {D N X : Type 0} (journal : D → List (N × ℕ)) (share : D → ℕ → List X) (opened : List (N × ℕ)) (seats : ℕ) where
   abbrev Rule : State (Option D) (SeatView D N X) → Type 0

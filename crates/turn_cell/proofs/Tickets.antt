@@ -1,7 +1,7 @@
 -- What the rule says of the tickets that are out, and of the seat in turn.
 use Rattle.std.proofs.Common.{◌≡◌, ◌≢◌, ℕ, ◌+◌, ◌<◌, ◌≤◌, ◌==◌, if◌then◌else◌, List, [], ◌∷◌, ◌++◌, set, length, Option, Some, None, IfSome, sym, refl, ap, ◌∙◌, inl, inr, arith}
 use Rattle.std.proofs.lemmas.Bool.Decides.{nat_tests}
-use Rattle.std.proofs.lemmas.Option.{IfSome_then}
+use Rattle.std.proofs.lemmas.Option.{IfSome_then, none-some}
 use mathlib.Core.Option.{none, some, some-injective}
 use mathlib.Core.Option as maybe
 use lib.ListN.{get_elem?}
@@ -38,10 +38,6 @@ tickets-low : (held : Option ℕ) (served drawn passes : ℕ)
     → IfSome held (λ ticket. (served ≤ ticket) × (ticket < drawn) × (0 < passes)) → tickets held ≤ passes
 tickets-low None served drawn passes fits = omega arith
 tickets-low (Some ticket) served drawn passes fits = let some_pass : 0 < passes = fits.2 in omega arith
-
--- nothing is not something
-pub none-some : {D : Type 0} (value : D) → None ≡ Some value → ⊥
-none-some value is = cc
 
 -- ---- one view changes
 

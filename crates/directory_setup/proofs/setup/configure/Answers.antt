@@ -1,5 +1,6 @@
 use Rattle.std.proofs.Common.{inl, inr, refl, sym}
-use Rattle.directory_setup.proofs.ReadTexts.{holds_anyway, text_read}
+use Rattle.sync_io.proofs.Results.{holds_anyway}
+use Rattle.directory_setup.proofs.ReadTexts.{text_read}
 use Rattle.directory_setup.proofs.setup.configure.Goals as goal
 
 pub returns-in-Failed-clause-failed : goal.returns-in-Failed-clause-failed

@@ -1,5 +1,5 @@
 use Rattle.std.proofs.Common.{refl}
-use Rattle.directory_setup.proofs.ReadTexts.{holds_anyway}
+use Rattle.sync_io.proofs.Results.{holds_anyway}
 use Rattle.directory_setup.proofs.Setups.{empty_made}
 use Rattle.directory_setup.proofs.setup.first_of.Goals as goal
 

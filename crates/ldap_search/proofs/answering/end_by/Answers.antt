@@ -1,6 +1,6 @@
 use Rattle.std.proofs.Common.{Some, ap}
 use Rattle.ldap_search.specs.declared.end.SearchEnd.{SearchEnd}
-use Rattle.ldap_search.proofs.Writing.{holds_anyway}
+use Rattle.sync_io.proofs.Results.{holds_anyway}
 use Rattle.ldap_search.proofs.answering.end_by.Goals as goal
 
 pub returns-clause-ends : goal.returns-clause-ends

@@ -3,7 +3,7 @@ use Rattle.std.specs.declared.alloc.AllocError.{AllocError}
 use Rattle.ldap_client.specs.Clients.{ClientState}
 use Rattle.ldap_search.proofs.Followed.{begins_following, consumer_made, filter_within, follows_to_end, start_ends}
 use Rattle.ldap_search.proofs.Stopped.{follows_in_part}
-use Rattle.ldap_search.proofs.Writing.{holds_anyway}
+use Rattle.sync_io.proofs.Results.{holds_anyway}
 use Rattle.ldap_search.proofs.following.follow.Goals as goal
 
 -- the consumer has the filter of the search, and the client answers no fault

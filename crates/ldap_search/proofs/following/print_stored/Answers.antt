@@ -1,7 +1,7 @@
 use Rattle.std.proofs.Common.{arith, inl, refl}
 use Rattle.std.specs.declared.alloc.AllocError.{AllocError}
 use Rattle.ldap_search.proofs.Storing.{stops_storing, stores_last, stores_more, stores_torn}
-use Rattle.ldap_search.proofs.Writing.{holds_anyway}
+use Rattle.sync_io.proofs.Results.{holds_anyway}
 use Rattle.ldap_search.proofs.following.print_stored.Goals as goal
 
 -- more are wanted

@@ -1,7 +1,8 @@
 use Rattle.std.proofs.Common.{◌≡◌, ◌<◌, ◌∷◌, [], ◌++◌, inl, refl, sym, ◌∙◌, subst}
 use Rattle.std.specs.List.{AllZip}
+use Rattle.std.proofs.lemmas.Slice.Zip.{all_zipped_more}
 use Rattle.sync_drill.specs.Going.{HasMetThis}
-use Rattle.sync_drill.proofs.Lists.{all_given, is_given, one_given, zip-push}
+use Rattle.sync_drill.proofs.Lists.{all_given, is_given, one_given}
 use Rattle.sync_drill.proofs.Meetings.{met-this}
 use Rattle.sync_drill.proofs.meeting.show_each.Goals as goal
 
@@ -41,7 +42,7 @@ loop-other-preserved g c =
         its_state = c.meet.ensures.other ∙ inv.first.its_state;
       };
       met = subst (AllZip (HasMetThis home state this) (yielded ++ other ∷ [])) (sym c.in_ok-push.ensures.items)
-          (zip-push (HasMetThis home state this) yielded c.loop-other.shown.items other c.meet.new.self inv.met
+          (all_zipped_more (HasMetThis home state this) yielded c.loop-other.shown.items other c.meet.new.self inv.met
           (met-this home state this other c.loop-other.showing c.meet.new.self inv.first.its_state c.meet.ensures.home c.meet.ensures.met));
       all = one_given c.args.others.items yielded c.loop-other.other-iterator.rest.items c.next.new.self.rest.items other inv.all c.in-Some.ensures.steps.0;
     }

@@ -1,7 +1,8 @@
 use Rattle.std.proofs.Common.{◌∷◌, [], ◌++◌, sym, ◌∙◌, subst}
 use Rattle.std.specs.List.{AllZip}
+use Rattle.std.proofs.lemmas.Slice.Zip.{all_zipped_more}
 use Rattle.sync_drill.specs.Writers.{HasEnded}
-use Rattle.sync_drill.proofs.Lists.{all_given, one_given, zip-push}
+use Rattle.sync_drill.proofs.Lists.{all_given, one_given}
 use Rattle.sync_drill.proofs.threads.ports_of.Goals as goal
 
 pub loop-writing-init : goal.loop-writing-init
@@ -17,7 +18,7 @@ loop-writing-preserved g c =
     let writing = c.in-Some.writing in
     record {
       ended = subst (AllZip HasEnded (yielded ++ writing ∷ [])) (sym c.in_ok-push.ensures.items)
-          (zip-push HasEnded yielded c.loop-writing.ports.items writing c.in_ok-port_of.field-0 inv.ended c.in_ok-port_of.ensures);
+          (all_zipped_more HasEnded yielded c.loop-writing.ports.items writing c.in_ok-port_of.field-0 inv.ended c.in_ok-port_of.ensures);
       all = one_given c.args.writings.items yielded c.loop-writing.writing-iterator.rest.items c.next.new.self.rest.items writing inv.all
           c.in-Some.ensures.steps.0;
     }

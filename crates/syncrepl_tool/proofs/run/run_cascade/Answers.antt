@@ -1,7 +1,8 @@
 use Rattle.std.proofs.Common.{refl}
 use Rattle.std.proofs.lemmas.Result.{IfOk-weaker, on_err_weaker}
 use Rattle.syncrepl_tool.proofs.Ending.{decides_of, prefix_of, prefix_of_nothing}
-use Rattle.syncrepl_tool.proofs.Statuses.{both_hold, holds_anyway, of_ends, of_read_fault}
+use Rattle.sync_io.proofs.Results.{holds_anyway}
+use Rattle.syncrepl_tool.proofs.Statuses.{both_hold, of_ends, of_read_fault}
 use Rattle.syncrepl_tool.proofs.run.run_cascade.Goals as goal
 
 pub returns-in_err-text-clause-headline : goal.returns-in_err-text-clause-headline

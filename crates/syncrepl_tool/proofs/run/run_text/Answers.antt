@@ -1,7 +1,7 @@
 use Rattle.std.proofs.Common.{◌∙◌}
 use Rattle.std.proofs.lemmas.Result.{IfOk-weaker, on_err_weaker}
 use Rattle.syncrepl_tool.proofs.Ending.{prefix_kept, up_to_kept, refused_ends}
-use Rattle.syncrepl_tool.proofs.Statuses.{holds_anyway}
+use Rattle.sync_io.proofs.Results.{holds_anyway}
 use Rattle.syncrepl_tool.proofs.run.run_text.Goals as goal
 
 pub returns-in-Refused-clause-ends : goal.returns-in-Refused-clause-ends

@@ -10,8 +10,8 @@ search-requires-clause-filter g c κs within = rw c.in-Wanted.is at c.in_ok-read
 pub returns-in-Ok-clause-searches : goal.returns-in-Ok-clause-searches
 returns-in-Ok-clause-searches g c =
     ends_search _
-    (search_ended _ _ c.in-Ok.end (rw c.in-Wanted.is at c.in_ok-reading.ensures.reads) c.in-Ok.ensures.searches c.say_end.ensures c.in-Ok.ensures.output_failed c.in-Ok.ensures.net_failed
-    c.in-Ok.ensures.output_faultless c.in-Ok.ensures.net_faultless)
+    (search_ended _ _ c.in-Ok.end (rw c.in-Wanted.is at c.in_ok-reading.ensures.reads) c.in-Ok.ensures.searches c.say_end.ensures c.in-Ok.ensures.faults.output_failed c.in-Ok.ensures.faults.net_failed
+    c.in-Ok.ensures.faults.output_faultless c.in-Ok.ensures.faults.net_faultless)
 
 -- the base or the filter is refused
 
@@ -39,4 +39,4 @@ returns-in_err-reading-clause-searches g c =
 
 pub returns-in-Err-clause-searches : goal.returns-in-Err-clause-searches
 returns-in-Err-clause-searches g c =
-    runs_out_asked _ _ (rw c.in-Wanted.is at c.in_ok-reading.ensures.reads) c.in-Err.ensures.in_part c.in-Err.ensures.output_sound c.in-Err.ensures.net_sound
+    runs_out_asked _ _ (rw c.in-Wanted.is at c.in_ok-reading.ensures.reads) c.in-Err.ensures.in_part c.in-Err.ensures.faults.output_sound c.in-Err.ensures.faults.net_sound

@@ -1,9 +1,10 @@
 use Rattle.std.proofs.Common.{◌≡◌, [], ◌∷◌, ◌++◌, ap, append-nil, append_assoc, refl, subst, sym, ◌∙◌}
+use Rattle.std.proofs.lemmas.List.{nil_from_length}
 use Rattle.std.specs.List.{flat_map}
 use Rattle.ldap_server.specs.HandOuts.{AreOfGrammar, octets_of}
 use Rattle.ldap_server.specs.Seen.{point_in}
 use Rattle.ldap_server.proofs.Performing.{part_more, with_sent}
-use Rattle.ldap_server.proofs.Together.{none_left, none_sent, one_sent, rest_of_grammar}
+use Rattle.ldap_server.proofs.Together.{none_sent, one_sent, rest_of_grammar}
 use Rattle.ldap_server.proofs.session.Session.send_each.Goals as goal
 
 pub loop-message-init : goal.loop-message-init
@@ -51,7 +52,7 @@ returns-clause-sends g c =
     let inv = c.loop-message.invariant in
     let old = point_in g.P.Port.state c.args.self.now in
     let left = c.loop-message.message-iterator.rest in
-    let none : left.items ≡ [] = none_left left.items (sym left.ok.0 ∙ c.in-None.ensures.steps.0) in
+    let none : left.items ≡ [] = nil_from_length left.items (sym left.ok.0 ∙ c.in-None.ensures.steps.0) in
     let same : c.loop-message.yielded ≡ c.args.messages.items =
     sym (inv.all ∙ (ap (λ more. c.loop-message.yielded ++ more) none ∙ append-nil c.loop-message.yielded)) in
     inv.sent ∙ ap (λ ms. with_sent old (old.sent ++ flat_map octets_of ms)) same

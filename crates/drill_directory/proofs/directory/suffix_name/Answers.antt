@@ -1,0 +1,6 @@
+use Rattle.std.proofs.Common.{ap}
+use Rattle.entry_tree.specs.Selection.{Search}
+use Rattle.drill_directory.proofs.directory.suffix_name.Goals as goal
+
+pub returns : goal.returns
+returns c = ap (λ (search : Search). search.base) c.in_ok-spec.ensures
