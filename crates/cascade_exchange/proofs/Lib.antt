@@ -11,7 +11,6 @@ pub mod Loops
 pub mod Openings
 pub mod Others
 pub mod Owns
-pub mod Passing
 pub mod Pending
 pub mod Performing
 pub mod Sendings

@@ -3,9 +3,11 @@ use Rattle.std.proofs.Common.{◌≡◌, ◌+◌, ◌-◌, ◌<◌, ◌≤◌, �
 use Rattle.std.specs.Prelude.{Ok, Err, Result}
 use Rattle.sync_provider.specs.Machine.{ProviderState}
 use Rattle.cascade_nodes.specs.declared.node.ConsumerNode.{ConsumerNode}
+use Rattle.cascade_nodes.specs.Link.{most_link}
 use Rattle.cascade_script.specs.declared.fault.Cause.{Cause}
+use Rattle.cascade_script.specs.declared.fault.Cause.TheVariants.{BadCommand, UnknownNode, NameTaken, BadRecord, LimitReached, OutsideSuffix, LaterCookie, Circle, NoMemory}
 use Rattle.cascade_exchange.specs.Exchange.{Agreement, ExchangeOutcome, agreement_of, after_lines, name_of, copy_of, sending, sent_before, sent, taken_as, taken_from, taking, taken_before, taken_some, takes, drains}
-use Rattle.cascade_exchange.specs.Exchange.Sending.{Sends}
+use Rattle.cascade_exchange.specs.Exchange.Sending.{Sends, Overflows}
 use Rattle.cascade_exchange.specs.Going.{GoesOn, Drains}
 use Rattle.cascade_exchange.specs.Reception.{Came, received}
 use Rattle.cascade_exchange.specs.Reception.{Came as came}
@@ -178,3 +180,22 @@ sent_none whole (suc count) p after old mid text new some so none line =
 pub sent_all : (whole : ExchangeOutcome) (n : ℕ) (p : Agreement) (old new : Report) → n ≤ 0 → GoesOn whole (sent n p) old new → Does whole old p new (Ok tt)
 sent_all whole zero p old new none so = done whole p old new so
 sent_all whole (suc count) p old new none so = absurd (omega (arith, none))
+
+-- ---- a sending that is refused
+
+-- where the link has no room all is
+sent_full : (whole : ExchangeOutcome) (n : ℕ) (p : Agreement) (old mid : Report) (cause : Cause) → 0 < n → GoesOn whole (sent n p) old mid → sending p ≡ Overflows → cause ≡ LimitReached most_link → whole ≡ Err cause
+sent_full whole zero p old mid cause some so over is = absurd (omega arith)
+sent_full whole (suc n) p old mid cause some so over is = so.1 ∙ ap (λ x. after_lines so.0 (sent_before (λ q. sent n q) p x)) over ∙ ap Err (sym is)
+
+-- a message for which the link has no room refuses all
+pub sent_over : (whole : ExchangeOutcome) (n : ℕ) (p after last : Agreement) (old mid text new : Report) (cause : Cause) → 0 < n → GoesOn whole (sent n p) old mid → SendsOne p (sending p) mid after text (Err cause) → Does whole old last new (Err cause)
+sent_over whole n p after last old mid text new BadCommand some so h = sent_full whole n p old mid BadCommand some so h.0 h.1
+sent_over whole n p after last old mid text new UnknownNode some so h = sent_full whole n p old mid UnknownNode some so h.0 h.1
+sent_over whole n p after last old mid text new NameTaken some so h = sent_full whole n p old mid NameTaken some so h.0 h.1
+sent_over whole n p after last old mid text new BadRecord some so h = sent_full whole n p old mid BadRecord some so h.0 h.1
+sent_over whole n p after last old mid text new (LimitReached number) some so h = sent_full whole n p old mid (LimitReached number) some so h.0 h.1
+sent_over whole n p after last old mid text new OutsideSuffix some so h = sent_full whole n p old mid OutsideSuffix some so h.0 h.1
+sent_over whole n p after last old mid text new (LaterCookie held given) some so h = sent_full whole n p old mid (LaterCookie held given) some so h.0 h.1
+sent_over whole n p after last old mid text new Circle some so h = sent_full whole n p old mid Circle some so h.0 h.1
+sent_over whole n p after last old mid text new NoMemory some so h = tt

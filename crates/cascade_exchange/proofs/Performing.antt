@@ -1,6 +1,6 @@
 -- An event that is done wholly, or taken back.
 use Rattle.std.proofs.Common.{◌≡◌, ℕ, Bool, true, false, [], ◌++◌, Option, Some, None, refl, ap, sym, subst, ◌∙◌}
-use Rattle.std.specs.Prelude.{Ok, Err, IfSome, is_some}
+use Rattle.std.specs.Prelude.{Result, Ok, Err, IfSome, OnErr, is_some}
 use Rattle.std.proofs.lemmas.Bool.{false≢true}
 use Rattle.sync_provider.specs.Machine.{ProviderState}
 use Rattle.directory_writes.specs.Directory.{DirectoryState}
@@ -15,7 +15,7 @@ use Rattle.cascade_script.specs.declared.fault.Cause.{Cause}
 use Rattle.cascade_script.specs.declared.fault.Cause.TheVariants.{BadCommand, UnknownNode, NameTaken, BadRecord, LimitReached, OutsideSuffix, LaterCookie, Circle, NoMemory}
 use Rattle.cascade_exchange.specs.Exchange.{Agreement, ExchangeOutcome, closed, is_stepwise}
 use Rattle.cascade_report.specs.Report.{Report}
-use Rattle.cascade_exchange.specs.Parts.{Does, Performs, KeepsOthers, IsKeptSearch, IsKeptIfAny, BringsBack, IsUntouched, opened_since, with_kept, search_back, consumer_back}
+use Rattle.cascade_exchange.specs.Parts.{AreAsBefore, Does, Performs, KeepsOthers, IsKeptSearch, IsKeptIfAny, BringsBack, IsUntouched, opened_since, with_kept, search_back, consumer_back}
 use Rattle.cascade_exchange.proofs.Others.{only_searches}
 use Rattle.cascade_report.specs.ReportLines.{lines_text, stages_of}
 use Rattle.cascade_exchange.specs.declared.exchange.Exchange.{Exchange}
@@ -122,9 +122,9 @@ stepwise_back what p p1 f f1 own before after search same steps is are others un
 
 -- a refused one, whether it is done in steps or not
 pub refused_back : (what : Exchange) (p p1 : ProviderState) (f f1 : ConsumerNode) (own : Option KeptSearch) (before after : Snapshot) → before.search ≡ f.search → IfSome before.consumer_node (λ was. was ≡ f) → is_some before.consumer_node ≡ is_stepwise what
-    → after ≡ record before { own = own } → IsKeptIfAny p f.search own → KeepsOthers p f p1 f1 → (is_stepwise what ≡ true → IsUntouched own f.search p p1) → (is_stepwise what ≡ false → p1 ≡ p) → (is_stepwise what ≡ false → f1 ≡ f)
+    → after ≡ record before { own = own } → IsKeptIfAny p f.search own → KeepsOthers p f p1 f1 → (is_stepwise what ≡ true → IsUntouched own f.search p p1) → (is_stepwise what ≡ false → AreAsBefore p f p1 f1)
     → BringsBack p f p1 f1 after
-refused_back what p p1 f f1 own before after search same steps is are others untouched still still' = by (is_stepwise what) refl
+refused_back what p p1 f f1 own before after search same steps is are others untouched still = by (is_stepwise what) refl
   where
     anyhow : (own : Option ℕ) → p1 ≡ p → IfSome own (λ number. p1 ≡ p)
     anyhow None here = tt
@@ -134,7 +134,7 @@ refused_back what p p1 f f1 own before after search same steps is are others unt
     by true now = stepwise_back what p p1 f f1 own before after search same steps is are others untouched now
     by false now =
         subst (BringsBack p f p1 f1) (sym is)
-        (brings_back p p1 f f1 (record before { own = own }) search are others (λ none. anyhow f.search (still now)) (still_consumer f f1 before.consumer_node same (still' now)))
+        (brings_back p p1 f f1 (record before { own = own }) search are others (λ none. anyhow f.search (still now).0) (still_consumer f f1 before.consumer_node same (still now).1))
 
 -- where the searches are kept or the consumer had none, nothing of them is owed
 pub owes_nothing : (kept : Option KeptSearch) (search : Option ℕ) (p p1 : ProviderState) → (kept ≡ None → search ≡ None) → IsUntouched kept search p p1
@@ -152,6 +152,11 @@ kept_same p search now kept is same put are = subst (IsKeptIfAny p search) (sym 
 pub dropped_untouched : (p p1 : ProviderState) (search now : Option ℕ) (kept is : Option KeptSearch) → now ≡ search → is ≡ kept → (kept ≡ None → now ≡ None) → IsUntouched is search p p1
 dropped_untouched p p1 search now kept is same put needed =
     owes_nothing is search p p1 (λ none. sym same ∙ needed (sym put ∙ none))
+
+-- where both are as before anyway, they are so after a refusal
+pub both_stay : {T E : Type 0} (result : Result T E) (p p1 : ProviderState) (f f1 : ConsumerNode) → p1 ≡ p → f1 ≡ f → OnErr result (AreAsBefore p f p1 f1)
+both_stay (Ok value) p p1 f f1 provider consumer_node = tt
+both_stay (Err cause) p p1 f f1 provider consumer_node = (provider, consumer_node)
 
 -- an exchange is not in steps and in one step
 pub in_steps : {A : Type 0} (what : Exchange) → is_stepwise what ≡ true → is_stepwise what ≡ false → A

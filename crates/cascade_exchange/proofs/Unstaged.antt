@@ -61,7 +61,7 @@ sent_unstaged (suc count) pair = by (sent_unstaged count) (sending pair)
 
 part_unstaged : (what : Exchange) (pair : Agreement) → is_stepwise what ≡ false → HasNoStage (part_of what pair)
 part_unstaged (goes.Open mode) pair at_once = let never : ⊥ = cc in absurd never
-part_unstaged (goes.Send count) pair at_once = sent_unstaged count pair
+part_unstaged (goes.Send count) pair at_once = let never : ⊥ = cc in absurd never
 part_unstaged (goes.Take count) pair at_once = let never : ⊥ = cc in absurd never
 part_unstaged goes.Cut pair at_once = cut_unstaged pair
 part_unstaged goes.Settle pair at_once = let never : ⊥ = cc in absurd never

@@ -416,6 +416,7 @@ part_of (goes.Respec spec) = respecs (search_of spec)
 -- it is done in steps, of which a later one can be refused
 abbrev pub is_stepwise : Exchange → Bool
 is_stepwise (goes.Open mode) = true
+is_stepwise (goes.Send count) = true
 is_stepwise (goes.Take count) = true
 is_stepwise goes.Settle = true
 is_stepwise _ = false
@@ -423,5 +424,6 @@ is_stepwise _ = false
 -- a step of it can change the provider's searches before a later one is refused
 abbrev pub moves_searches : Exchange → Bool
 moves_searches (goes.Open mode) = true
+moves_searches (goes.Send count) = true
 moves_searches goes.Settle = true
 moves_searches _ = false

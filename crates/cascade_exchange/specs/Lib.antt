@@ -5,5 +5,4 @@ pub mod Going
 pub mod Reception
 pub mod Naming
 pub mod Parts
-pub mod Passing
 pub mod Trace

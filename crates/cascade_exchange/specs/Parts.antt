@@ -54,6 +54,11 @@ abbrev pub KeepsOthers : ProviderState → ConsumerNode → ProviderState → Co
 KeepsOthers before consumer_node after consumer_after =
     closed after consumer_after.search ≡ closed before consumer_node.search
 
+-- both are as before
+abbrev pub AreAsBefore : ProviderState → ConsumerNode → ProviderState → ConsumerNode → Type 0
+AreAsBefore before consumer_node after consumer_after =
+    (after ≡ before) × (consumer_after ≡ consumer_node)
+
 -- ---- a moment that is kept
 
 -- how a search of a provider stood: what is closed and put back leaves the provider as it was

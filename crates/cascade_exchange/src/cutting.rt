@@ -3,7 +3,7 @@ ghost use Rattle.std.specs.Prelude.{◌≡◌, Some, None, OnOk, OnErr};
 ghost use Rattle.cascade_exchange.specs.Exchange as spec;
 ghost use Rattle.cascade_exchange.specs.Exchange.{agreement_of};
 ghost use Rattle.cascade_report.specs.Origins.{Lineage};
-ghost use Rattle.cascade_exchange.specs.Parts.{Does, KeepsOthers};
+ghost use Rattle.cascade_exchange.specs.Parts.{AreAsBefore, Does, KeepsOthers};
 
 use cascade_nodes::{ConsumerNode, ScriptProvider};
 use cascade_report::Report;
@@ -42,6 +42,7 @@ pub fn drop_all(provider: &mut ScriptProvider, consumer_node: &mut ConsumerNode)
 }
 
 /// Cuts a busy consumer. After a refusal both are as before.
+#[tactic(auto, using(crate::proofs::Performing::both_stay))]
 pub fn cut(
     provider: &mut ScriptProvider,
     consumer_node: &mut ConsumerNode,
@@ -51,8 +52,8 @@ pub fn cut(
         out.old (agreement_of provider.new consumer_node.new out.old.lineage) out.new result }
     ensures provider { KeepsOthers provider.old consumer_node.old provider.new consumer_node.new }
     ensures idle { OnOk result (consumer_node.new.search ≡ None) }
-    ensures provider_err { OnErr result (provider.new ≡ provider.old) }
-    ensures consumer_node_err { OnErr result (consumer_node.new ≡ consumer_node.old) }
+    ensures err { OnErr result
+        (AreAsBefore provider.old consumer_node.old provider.new consumer_node.new) }
 {
     if !is_busy(consumer_node) {
         out.nothing(consumer_node.name.as_slice())?;

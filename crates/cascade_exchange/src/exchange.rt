@@ -5,7 +5,7 @@ ghost use Rattle.cascade_exchange.specs.Exchange.{agreement_of, part_of};
 ghost use Rattle.cascade_exchange.specs.Exchange.{is_stepwise, moves_searches};
 ghost use Rattle.cascade_nodes.specs.Ours.{IsOurs};
 ghost use Rattle.cascade_exchange.specs.Parts as parts;
-ghost use Rattle.cascade_exchange.specs.Parts.{IsKeptIfAny, BringsBack, IsUntouched, KeepsOthers, Performs};
+ghost use Rattle.cascade_exchange.specs.Parts.{AreAsBefore, IsKeptIfAny, BringsBack, IsUntouched, KeepsOthers, Performs};
 ghost use Rattle.cascade_exchange.specs.Parts.{consumer_back, opened_since, provider_back, search_back};
 
 use crate::aside::Aside;
@@ -54,9 +54,8 @@ impl Exchange {
         ensures { result ≡ is_stepwise self.now }
     {
         match self {
-            Exchange::Open(_) | Exchange::Take(_) | Exchange::Settle => true,
-            Exchange::Send(_)
-            | Exchange::Cut
+            Exchange::Open(_) | Exchange::Send(_) | Exchange::Take(_) | Exchange::Settle => true,
+            Exchange::Cut
             | Exchange::LoseCookie
             | Exchange::SetCookie(_)
             | Exchange::CutIfBusy
@@ -69,9 +68,8 @@ impl Exchange {
         ensures { result ≡ moves_searches self.now }
     {
         match self {
-            Exchange::Open(_) | Exchange::Settle => true,
-            Exchange::Send(_)
-            | Exchange::Take(_)
+            Exchange::Open(_) | Exchange::Send(_) | Exchange::Settle => true,
+            Exchange::Take(_)
             | Exchange::Cut
             | Exchange::LoseCookie
             | Exchange::SetCookie(_)
@@ -101,10 +99,8 @@ impl Exchange {
             → IsKeptIfAny provider.old consumer_node.old.search kept.new }
         ensures untouched { is_stepwise self ≡ true
             → IsUntouched kept.new consumer_node.old.search provider.old provider.new }
-        ensures provider_err { is_stepwise self ≡ false
-            → OnErr result (provider.new ≡ provider.old) }
-        ensures consumer_node_err { is_stepwise self ≡ false
-            → OnErr result (consumer_node.new ≡ consumer_node.old) }
+        ensures err { is_stepwise self ≡ false → OnErr result
+            (AreAsBefore provider.old consumer_node.old provider.new consumer_node.new) }
     {
         match self {
             Exchange::Open(mode) => open_search(alloc, provider, consumer_node, mode, out),

@@ -7,7 +7,7 @@ ghost use Rattle.sync_wire.specs.Requesting.{persists};
 ghost use Rattle.cascade_exchange.specs.Exchange as spec;
 ghost use Rattle.cascade_exchange.specs.Reception as decoding;
 ghost use Rattle.cascade_exchange.specs.Exchange.{agreement_of};
-ghost use Rattle.cascade_exchange.specs.Parts.{Does, KeepsOthers, Opens, Refuses};
+ghost use Rattle.cascade_exchange.specs.Parts.{AreAsBefore, Does, KeepsOthers, Opens, Refuses};
 ghost use Rattle.cascade_exchange.specs.Parts.{first_value};
 
 use crate::cutting::{cut, is_busy};
@@ -110,8 +110,8 @@ pub fn cut_if_busy(
         out.old (agreement_of provider.new consumer_node.new out.old.lineage) out.new result }
     ensures provider { KeepsOthers provider.old consumer_node.old provider.new consumer_node.new }
     ensures idle { OnOk result (consumer_node.new.search ≡ None) }
-    ensures provider_err { OnErr result (provider.new ≡ provider.old) }
-    ensures consumer_node_err { OnErr result (consumer_node.new ≡ consumer_node.old) }
+    ensures err { OnErr result
+        (AreAsBefore provider.old consumer_node.old provider.new consumer_node.new) }
 {
     if is_busy(consumer_node) {
         return cut(provider, consumer_node, out);

@@ -3,7 +3,7 @@ ghost use Rattle.std.specs.Prelude.{◌≡◌, OnErr};
 ghost use Rattle.entry_tree.specs.Selection.{search_of};
 ghost use Rattle.cascade_exchange.specs.Exchange as spec;
 ghost use Rattle.cascade_exchange.specs.Exchange.{agreement_of};
-ghost use Rattle.cascade_exchange.specs.Parts.{Does, KeepsOthers};
+ghost use Rattle.cascade_exchange.specs.Parts.{AreAsBefore, Does, KeepsOthers};
 
 use crate::opening::cut_if_busy;
 use cascade_nodes::{ConsumerNode, ScriptProvider};
@@ -24,8 +24,8 @@ pub fn respec(
         (agreement_of provider.old consumer_node.old out.old.lineage))
         out.old (agreement_of provider.new consumer_node.new out.old.lineage) out.new result }
     ensures provider { KeepsOthers provider.old consumer_node.old provider.new consumer_node.new }
-    ensures provider_err { OnErr result (provider.new ≡ provider.old) }
-    ensures consumer_node_err { OnErr result (consumer_node.new ≡ consumer_node.old) }
+    ensures err { OnErr result
+        (AreAsBefore provider.old consumer_node.old provider.new consumer_node.new) }
 {
     match cut_if_busy(provider, consumer_node, out) {
         Ok(()) => {

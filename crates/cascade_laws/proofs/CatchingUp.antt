@@ -2,7 +2,7 @@
 use Rattle.std.proofs.Common.{◌≡◌, ◌<◌, ◌≤◌, ℕ, zero, suc, Bool, true, false, cond, Option, Some, None, List, [], ◌∷◌, ◌++◌, length, map, refl, ap, sym, ◌∙◌, inl, inr, arith, subst}
 use Rattle.std.specs.Prelude.{◌⊎◌, ◌&&◌, Ok, Err, is_some, option_map}
 use Rattle.std.proofs.Math.Seq.{take-length}
-use Rattle.std.proofs.lemmas.Bool.{false≢true, true≢false}
+use Rattle.std.proofs.lemmas.Bool.{false≢true}
 use Rattle.std.proofs.lemmas.List.Sums.{fold-append}
 use Rattle.std.proofs.lemmas.List.{nil_from_length}
 use Rattle.std.proofs.lemmas.Option.{none-some}
@@ -15,19 +15,19 @@ use Rattle.entry_tree.specs.Selection.{select}
 use Rattle.entry_tree.specs.declared.entry.Entry.{Entry}
 use Rattle.entry_tree.specs.declared.op.Write.{Write}
 use Rattle.sync_model.specs.Copy.{Copy}
+use Rattle.sync_model.specs.Law.{IsContentWithin}
 use Rattle.sync_model.specs.Message.{SyncMessage}
-use Rattle.sync_model.specs.Stream.{SyncOperation, content_after, later}
+use Rattle.sync_model.specs.Stream.{SyncOperation, content_after, last_mark, later}
 use Rattle.sync_model.proofs.Histories.{ascends-state_of}
 use Rattle.sync_consumer.specs.Taking.{is_persisting}
 use Rattle.sync_provider.specs.HandingOut.{HandOut, turn_of_pending, turn_of_found, search_at}
 use Rattle.sync_provider.specs.HandingOut.HandOut.{Hands, Closes, Waits, Unknown}
-use Rattle.sync_provider.specs.Law.{Delivers}
 use Rattle.sync_provider.specs.Machine.{ProviderState}
 use Rattle.sync_provider.specs.Search.{SearchState, busy_end, pending}
 use Rattle.sync_provider.proofs.Advanced.{IsIdle, never_idle}
 use Rattle.sync_provider.proofs.Whereabouts.{InRefresh, AtWhole, InGroup}
 use Rattle.cascade_nodes.specs.declared.node.ConsumerNode.{ConsumerNode}
-use Rattle.cascade_nodes.proofs.Fed.{HasRoom, HasPending, IsAtRest}
+use Rattle.cascade_nodes.proofs.Fed.{SoFar, HasRoom, HasPending, IsAtRest}
 use Rattle.cascade_world.specs.Exchange.{Agreement, agreement_of, ExchangeOutcome, after_lines, and_then, copy_of, name_of, Sending, Sends, Rests, Overflows, turn_of, handed, linked, fits, sending_by, sending, taking, taken_as, taken_from, taken_before, taken_some, pending_count, left_to_send, ran_before, ran_some, runs, drains, follows_on, opens_anew, refreshes, catches_up, settled_reported}
 use Rattle.cascade_laws.specs.Headline.{ReportedOpening, Known, with_sent, known_after, session_over, sent_octets}
 use Rattle.cascade_world.specs.Reception.{Came, received}
@@ -36,7 +36,7 @@ use Rattle.cascade_world.specs.Origins.{Lineage}
 use Rattle.cascade_world.specs.ReportLines.{ReportLine}
 use Rattle.cascade_world.specs.ReportLines.{ReportLine as reported}
 use Rattle.cascade_laws.proofs.Composing.{IsKeptIn, known_by_lines, kept-still, kept-reported, kept-then, kept-lines}
-use Rattle.cascade_laws.proofs.Feeding.{IsSource, GoesOn, IsGoing, IsFed, Frame, IsKept}
+use Rattle.cascade_laws.proofs.Feeding.{IsSource, Feeds, far_of, GoesOn, IsGoing, IsFed, Frame, IsKept}
 use Rattle.cascade_laws.proofs.FedOpening.{OpenedIn, opens_anew_opens}
 use Rattle.cascade_laws.proofs.FedSending.{own_sent, GoingSent, going_sent}
 use Rattle.cascade_laws.proofs.FedTaking.{IsTaken, GoingTaken, going_taken, cookies_are_texts}
@@ -65,30 +65,32 @@ map_none [] same = refl
 map_none (m ∷ link) same = let never : ⊥ = cc in absurd never
 
 -- the messages that are pending are counted
-pending_counted : (lin : Lineage) (p : ProviderState) (f : ConsumerNode) (mode cut : Bool) (own : Option ℕ) (messages : List SyncMessage) → HasPending p.directory p.searches f.consumer.spec mode cut own messages
+pending_counted : (lin : Lineage) (p : ProviderState) (f : ConsumerNode) (mode cut : Bool) (far : SoFar) (own : Option ℕ) (messages : List SyncMessage) → HasPending p.directory p.searches f.consumer.spec mode cut far own messages
     → left_to_send (agreement_of p f lin) own ≡ length messages
-pending_counted lin p f mode cut None messages has = ap length (sym has.0)
-pending_counted lin p f mode cut (Some at) messages has = ap (pending_count p.directory) has.found ∙ ap length has.same
+pending_counted lin p f mode cut far None messages has = ap length (sym has.0)
+pending_counted lin p f mode cut far (Some at) messages has = ap (pending_count p.directory) has.found ∙ ap length has.same
 
 module _ (lin : Lineage) (number : ℕ) (p : ProviderState) (f : ConsumerNode) (opening : ReportedOpening) (entries : List Entry) (goes : GoesOn number p f opening entries) (drained : IsDrained (agreement_of p f lin)) where
   no_link : goes.session.linked ≡ []
   no_link = map_none goes.session.linked (sym goes.link ∙ drained.link)
 
   no_pending : goes.session.pending ≡ []
-  no_pending = nil_from_length goes.session.pending (sym (pending_counted lin p f opening.persists goes.session.cut f.search goes.session.pending goes.search) ∙ drained.none)
+  no_pending =
+      nil_from_length goes.session.pending
+      (sym (pending_counted lin p f opening.persists goes.session.cut (far_of goes.session.start opening goes.session.count (goes.session.taken ++ goes.session.linked)) f.search goes.session.pending goes.search) ∙ drained.none)
 
   nothing_left : goes.session.linked ++ goes.session.pending ≡ []
   nothing_left = (λ i. no_link i ++ no_pending i)
 
   -- all of the Stream was taken
   pub all_taken : (goes.session.cut ≡ false) × (goes.session.ahead ≡ [])
-  all_taken = by goes.session.cut refl (subst (λ ms. Delivers goes.session.cut ms goes.session.ahead) nothing_left goes.session.left)
+  all_taken = by goes.session.cut refl (subst (λ ms. Feeds opening.persists goes.session.cut ms goes.session.ahead) nothing_left goes.session.left)
     where
       filled : (prefix : List SyncMessage) → [] ≡ prefix ++ busy_end ∷ [] → ⊥
       filled [] same = cc
       filled (m ∷ prefix) same = cc
 
-      by : (cut : Bool) → goes.session.cut ≡ cut → Delivers cut [] goes.session.ahead → (goes.session.cut ≡ false) × (goes.session.ahead ≡ [])
+      by : (cut : Bool) → goes.session.cut ≡ cut → Feeds opening.persists cut [] goes.session.ahead → (goes.session.cut ≡ false) × (goes.session.ahead ≡ [])
       by false is left = (is, sym left)
       by true is left = absurd (filled left.prefix left.is)
 
@@ -105,36 +107,40 @@ module _ (lin : Lineage) (number : ℕ) (suffix : Name) (p : ProviderState) (f :
   none_ahead : goes.session.ahead ≡ []
   none_ahead = (all_taken lin number p f opening entries goes drained).1
 
-  in_refresh : InRefresh operation goes.session.start opening.writes goes.session.count entries f.consumer.copy goes.session.taken goes.session.ahead → ⊥
-  in_refresh is = let bad : [] ≡ is.some.next ∷ (is.some.later ++ cond operation.persists (later operation opening.writes goes.session.count) []) =
-      sym none_ahead ∙ is.beyond ∙ ap (λ ms. ms ++ cond operation.persists (later operation opening.writes goes.session.count) []) is.some.same in
+  -- the number of writes at the last piece
+  abbrev last : ℕ
+  last = last_mark opening.writes goes.session.pieces
+
+  in_refresh : InRefresh operation goes.session.start opening.writes goes.session.pieces goes.session.count entries f.consumer.copy goes.session.taken goes.session.ahead → ⊥
+  in_refresh is = let bad : [] ≡ is.some.next ∷ (is.some.later ++ cond operation.persists (later operation last goes.session.count) []) =
+      sym none_ahead ∙ is.beyond ∙ ap (λ ms. ms ++ cond operation.persists (later operation last goes.session.count) []) is.some.same in
       let never : ⊥ = cc in
       never
 
-  whole_is : AtWhole operation opening.writes goes.session.count entries f.consumer.copy goes.session.ahead → entries ≡ all_content number p f
+  whole_is : AtWhole operation last goes.session.count entries f.consumer.copy goes.session.ahead → entries ≡ all_content number p f
   whole_is is =
       is.content
       ∙ past.none_left operation (λ n. ascends-state_of number writes n) (λ n. (source.good n).within)
-      (λ n. (source.good n).sent) (cookies_are_texts number f.consumer.spec writes opening) opening.writes goes.session.count is.more is.number (sym is.beyond ∙ none_ahead)
+      (λ n. (source.good n).sent) (cookies_are_texts number f.consumer.spec writes opening) last goes.session.count is.more is.number (sym is.beyond ∙ none_ahead)
       ∙ ap (content_after operation) (is.sum ∙ goes.session.upto)
       ∙ content_of_all number p f
 
-  group_is : InGroup operation opening.writes goes.session.count entries f.consumer.copy goes.session.ahead → ⊥
+  group_is : InGroup operation last goes.session.count entries f.consumer.copy goes.session.ahead → ⊥
   group_is is =
       past.group_filled operation (λ n. ascends-state_of number writes n) (λ n. (source.good n).within)
-      (λ n. (source.good n).sent) (cookies_are_texts number f.consumer.spec writes opening) opening.writes goes.session.count entries f.consumer.copy
-      (subst (InGroup operation opening.writes goes.session.count entries f.consumer.copy) none_ahead is)
+      (λ n. (source.good n).sent) (cookies_are_texts number f.consumer.spec writes opening) last goes.session.count entries f.consumer.copy
+      (subst (InGroup operation last goes.session.count entries f.consumer.copy) none_ahead is)
 
   -- its entries are what it wants of all of the provider's writes
   pub up_to_date : entries ≡ all_content number p f
   up_to_date = by goes.place
     where
-      by_past : AtWhole operation opening.writes goes.session.count entries f.consumer.copy goes.session.ahead ⊎ InGroup operation opening.writes goes.session.count entries f.consumer.copy goes.session.ahead → entries ≡ all_content number p f
+      by_past : AtWhole operation last goes.session.count entries f.consumer.copy goes.session.ahead ⊎ InGroup operation last goes.session.count entries f.consumer.copy goes.session.ahead → entries ≡ all_content number p f
       by_past (inl is) = whole_is is
       by_past (inr is) = absurd (group_is is)
 
-      by : InRefresh operation goes.session.start opening.writes goes.session.count entries f.consumer.copy goes.session.taken goes.session.ahead
-          ⊎ ((operation.persists ≡ true) × (AtWhole operation opening.writes goes.session.count entries f.consumer.copy goes.session.ahead ⊎ InGroup operation opening.writes goes.session.count entries f.consumer.copy goes.session.ahead))
+      by : InRefresh operation goes.session.start opening.writes goes.session.pieces goes.session.count entries f.consumer.copy goes.session.taken goes.session.ahead
+          ⊎ ((operation.persists ≡ true) × (AtWhole operation last goes.session.count entries f.consumer.copy goes.session.ahead ⊎ InGroup operation last goes.session.count entries f.consumer.copy goes.session.ahead))
           → entries ≡ all_content number p f
       by (inl is) = absurd (in_refresh is)
       by (inr is) = by_past is.1
@@ -248,14 +254,13 @@ drains_drained pair =
     let after = (taken_some (length pair.consumer_node.link) [] pair).0 in
     drained_lines (taken_some (length pair.consumer_node.link) [] pair).1 (runs after) (ran_drained (Left after) after took.0 (omega arith))
 
--- ---- a search that ends with its refresh, and was opened after all writes, runs to its end
+-- ---- a search that was opened after all writes runs to its end
 
 pub record Catches (number : ℕ) (p : ProviderState) (f : ConsumerNode) (known : Known) : Type 0 where
   pub opening : ReportedOpening
   pub latest : known.opening ≡ Some opening
   pub all : opening.writes ≡ length p.directory.writes
-  pub ends : opening.persists ≡ false
-  pub state : GoesOn number p f opening known.entries ⊎ (IsAtRest f × (known.entries ≡ content_at number f.consumer.spec p.directory.writes opening.writes))
+  pub state : GoesOn number p f opening known.entries ⊎ (IsAtRest f × (known.entries ≡ all_content number p f))
 
 abbrev CatchesIn : ℕ → Name → Agreement → Known → ExchangeOutcome → Type 0
 CatchesIn number suffix pair known (Ok next) = IsKept number suffix pair next.0 next.1 known × Catches number next.0.provider next.0.consumer_node (known_by_lines pair.consumer_node.name known next.1)
@@ -274,7 +279,7 @@ catches_sent : (number : ℕ) (suffix : Name) (pair : Agreement) (known : Known)
     → IsKept number suffix pair after (reported.Sent (name_of pair) message ∷ []) known × Catches number after.provider after.consumer_node (known_after pair.consumer_node.name known (reported.Sent (name_of pair) message))
 catches_sent number suffix pair known source fed is after message sends' = by is.state
   where
-    by : GoesOn number pair.provider pair.consumer_node is.opening known.entries ⊎ (IsAtRest pair.consumer_node × (known.entries ≡ content_at number pair.consumer_node.consumer.spec pair.provider.directory.writes is.opening.writes))
+    by : GoesOn number pair.provider pair.consumer_node is.opening known.entries ⊎ (IsAtRest pair.consumer_node × (known.entries ≡ all_content number pair.provider pair.consumer_node))
         → IsKept number suffix pair after (reported.Sent (name_of pair) message ∷ []) known × Catches number after.provider after.consumer_node (known_after pair.consumer_node.name known (reported.Sent (name_of pair) message))
     by (inl goes) =
         let sent = subst (GoingSent number suffix pair known is.opening) sends' (going_sent pair.lineage number suffix pair.provider pair.consumer_node known is.opening is.latest source fed goes) in
@@ -284,7 +289,6 @@ catches_sent number suffix pair known source fed is after message sends' = by is
             opening = with_sent message is.opening;
             latest = ap (λ (k : Known). k.opening) same ∙ ap (option_map (with_sent message)) is.latest;
             all = is.all ∙ ap (λ (ws : List Write). length ws) (sym (same_writes number suffix pair after (reported.Sent (name_of pair) message ∷ []) known sent.0));
-            ends = is.ends;
             state = inl (subst (λ (k : Known). GoesOn number after.provider after.consumer_node (with_sent message is.opening) k.entries) (sym same) sent.1);
           },
         )
@@ -303,7 +307,7 @@ catches_taken number suffix pair known source fed is after line takes' = by is.s
     writes : List Write
     writes = pair.provider.directory.writes
 
-    by : GoesOn number pair.provider pair.consumer_node is.opening known.entries ⊎ (IsAtRest pair.consumer_node × (known.entries ≡ content_at number pair.consumer_node.consumer.spec writes is.opening.writes))
+    by : GoesOn number pair.provider pair.consumer_node is.opening known.entries ⊎ (IsAtRest pair.consumer_node × (known.entries ≡ all_content number pair.provider pair.consumer_node))
         → IsKept number suffix pair after (line ∷ []) known × Catches number after.provider after.consumer_node (known_after pair.consumer_node.name known line)
     by (inl goes) = (
       taken.kept,
@@ -311,7 +315,6 @@ catches_taken number suffix pair known source fed is after line takes' = by is.s
         opening = is.opening;
         latest = taken.still ∙ is.latest;
         all = is.all ∙ ap (λ (ws : List Write). length ws) (sym (same_writes number suffix pair after (line ∷ []) known taken.kept));
-        ends = is.ends;
         state = now taken.then;
       },
     )
@@ -319,22 +322,21 @@ catches_taken number suffix pair known source fed is after line takes' = by is.s
         taken : IsTaken pair.lineage number suffix pair.provider pair.consumer_node known is.opening is.latest source fed goes after line
         taken = subst (GoingTaken pair.lineage number suffix pair.provider pair.consumer_node known is.opening is.latest source fed goes) takes' (going_taken pair.lineage number suffix pair.provider pair.consumer_node known is.opening is.latest source fed goes)
 
-        there : content_at number after.consumer_node.consumer.spec after.provider.directory.writes is.opening.writes ≡ content_at number pair.consumer_node.consumer.spec writes is.opening.writes
-        there = λ i. content_at number (same_spec number suffix pair after (line ∷ []) known taken.kept i) (same_writes number suffix pair after (line ∷ []) known taken.kept i) is.opening.writes
+        there : all_content number after.provider after.consumer_node ≡ all_content number pair.provider pair.consumer_node
+        there = λ i. select (same_spec number suffix pair after (line ∷ []) known taken.kept i) (entries_after number (same_writes number suffix pair after (line ∷ []) known taken.kept i))
 
-        whole : (known_after pair.consumer_node.name known line).entries ≡ content_at number pair.consumer_node.consumer.spec writes is.opening.writes
-            → (known_after pair.consumer_node.name known line).entries ≡ content_at number after.consumer_node.consumer.spec after.provider.directory.writes is.opening.writes
-        whole same = same ∙ sym there
-
-        content : (is.opening.persists ≡ true) ⊎ ((known_after pair.consumer_node.name known line).entries ≡ content_at number pair.consumer_node.consumer.spec writes is.opening.writes)
-            → (known_after pair.consumer_node.name known line).entries ≡ content_at number after.consumer_node.consumer.spec after.provider.directory.writes is.opening.writes
-        content (inl persists) = absurd (true≢false (sym persists ∙ is.ends))
-        content (inr same) = whole same
+        -- no write came since the opening, so that what is held is the content after all writes
+        content : (is.opening.writes < length writes) ⊎ IsContentWithin (session_over number pair.consumer_node.consumer.spec writes is.opening) is.opening.writes (length writes) (known_after pair.consumer_node.name known line).entries
+            → (known_after pair.consumer_node.name known line).entries ≡ all_content number after.provider after.consumer_node
+        content (inl since) = absurd (omega (arith, since, is.all))
+        content (inr within) =
+            let all : within.number ≡ length writes = omega (arith, within.from, within.upto, is.all) in
+            within.same ∙ ap (content_at number pair.consumer_node.consumer.spec writes) all ∙ content_of_all number pair.provider pair.consumer_node ∙ sym there
 
         now : GoesOn number after.provider after.consumer_node is.opening (known_after pair.consumer_node.name known line).entries
-            ⊎ (IsAtRest after.consumer_node × ((is.opening.persists ≡ true) ⊎ ((known_after pair.consumer_node.name known line).entries ≡ content_at number pair.consumer_node.consumer.spec writes is.opening.writes)))
+            ⊎ (IsAtRest after.consumer_node × ((is.opening.writes < length writes) ⊎ IsContentWithin (session_over number pair.consumer_node.consumer.spec writes is.opening) is.opening.writes (length writes) (known_after pair.consumer_node.name known line).entries))
             → GoesOn number after.provider after.consumer_node is.opening (known_after pair.consumer_node.name known line).entries
-            ⊎ (IsAtRest after.consumer_node × ((known_after pair.consumer_node.name known line).entries ≡ content_at number after.consumer_node.consumer.spec after.provider.directory.writes is.opening.writes))
+            ⊎ (IsAtRest after.consumer_node × ((known_after pair.consumer_node.name known line).entries ≡ all_content number after.provider after.consumer_node))
         now (inl goes') = inl goes'
         now (inr rest) = inr (rest.0, content rest.1)
     by (inr rest) =
@@ -392,9 +394,9 @@ UpIn number suffix pair known (Err cause) = Unit {0}
 caught_up : (lin : Lineage) (number : ℕ) (suffix : Name) (p : ProviderState) (f : ConsumerNode) (known : Known) → IsSource number suffix p → IsDrained (agreement_of p f lin) → Catches number p f known → known.entries ≡ all_content number p f
 caught_up lin number suffix p f known source drained is = by is.state
   where
-    by : GoesOn number p f is.opening known.entries ⊎ (IsAtRest f × (known.entries ≡ content_at number f.consumer.spec p.directory.writes is.opening.writes)) → known.entries ≡ all_content number p f
+    by : GoesOn number p f is.opening known.entries ⊎ (IsAtRest f × (known.entries ≡ all_content number p f)) → known.entries ≡ all_content number p f
     by (inl goes) = up_to_date lin number suffix p f is.opening known.entries source goes drained
-    by (inr rest) = rest.1 ∙ ap (content_at number f.consumer.spec p.directory.writes) is.all ∙ content_of_all number p f
+    by (inr rest) = rest.1
 
 up_of : (number : ℕ) (suffix : Name) (pair : Agreement) (known : Known) (outcome : ExchangeOutcome) → CatchesIn number suffix pair known outcome → DrainedIn outcome → UpIn number suffix pair known outcome
 up_of number suffix pair known (Ok next) is drained =
@@ -411,7 +413,7 @@ up_again number suffix pair known source fed room = by (opens_anew pair) (opens_
     by (Ok next) opened =
         let k = known_by_lines pair.consumer_node.name known next.1 in
         let catches : Catches number next.0.provider next.0.consumer_node k =
-        record { opening = opened.1.opening; latest = opened.1.latest; all = opened.1.all; ends = opened.1.mode; state = inl opened.1.goes } in
+        record { opening = opened.1.opening; latest = opened.1.latest; all = opened.1.all; state = inl opened.1.goes } in
         let ran = ran_catches (Left next.0) number suffix next.0 k opened.0.source opened.0.fed catches in
         up_of number suffix pair known (after_lines next.1 (runs next.0)) (catches_on number suffix pair next.0 next.1 known (runs next.0) opened.0 ran)
         (drained_lines next.1 (runs next.0) (ran_drained (Left next.0) next.0 opened.1.link (omega arith)))

@@ -33,7 +33,7 @@ goes_with number p f opening entries cookie goes = record {
   session = goes.session;
   link = goes.link;
   search = goes.search;
-  place = place_with (session_over number f.consumer.spec p.directory.writes opening) goes.session.start opening.writes goes.session.count entries f.consumer.copy goes.session.taken goes.session.ahead cookie goes.place;
+  place = place_with (session_over number f.consumer.spec p.directory.writes opening) goes.session.start opening.writes goes.session.pieces goes.session.count entries f.consumer.copy goes.session.taken goes.session.ahead cookie goes.place;
 }
 
 fed_with : (number : ℕ) (p : ProviderState) (f : ConsumerNode) (known : Known) (cookie : Option (List ℕ)) → IsFed number p f known

@@ -1,5 +1,5 @@
 -- A search that is opened feeds a consumer, and one that is refused leaves it at rest.
-use Rattle.std.proofs.Common.{◌≡◌, ℕ, Bool, true, false, cond, eq-eqb, Option, Some, None, List, [], ◌∷◌, ◌++◌, length, take, refl, ap, sym, ◌∙◌, inl, inr, arith, subst}
+use Rattle.std.proofs.Common.{◌≡◌, ℕ, Bool, true, false, cond, eq-eqb, Option, Some, None, List, [], ◌∷◌, ◌++◌, length, take, refl, ap, sym, ◌∙◌, inl, inr, arith, append-nil, subst}
 use Rattle.std.specs.Prelude.{◌⊎◌, ◌&&◌, ◌==◌, Ok, Err}
 use Rattle.std.specs.BTreeMap.{insert_entry}
 use Rattle.std.specs.Ordering.{nat_cmp}
@@ -22,19 +22,20 @@ use Rattle.sync_messages.specs.declared.request.SyncRequest.{SyncRequest}
 use Rattle.sync_model.specs.Incremental.{number_of}
 use Rattle.sync_model.specs.Law.{MayBegin}
 use Rattle.sync_model.specs.Message.{SyncMessage}
-use Rattle.sync_model.specs.Stream.{SyncOperation, Start, later}
-use Rattle.sync_model.proofs.NextMessages.{prefix_some, none_later}
+use Rattle.sync_model.specs.Stream.{SyncOperation, Start, RefreshPiece, refresh}
+use Rattle.sync_model.proofs.NextMessages.{HasNext, prefix_some, none_later}
 use Rattle.sync_wire.specs.Requesting.{persists}
 use Rattle.sync_provider.specs.Accepting.{free_number}
 use Rattle.sync_provider.specs.HandingOut.{search_at}
 use Rattle.sync_provider.specs.Machine.{ProviderState}
-use Rattle.sync_provider.specs.Search.{SearchState, session_of, refresh_from, settled_progress, opening, pending}
+use Rattle.sync_provider.specs.Search.{SearchState, session_of, opening, pending}
 use Rattle.sync_provider.specs.declared.searches.Accepted.{Accepted}
 use Rattle.sync_provider.specs.declared.searches.Accepted.TheVariants as accepted
-use Rattle.sync_provider.proofs.Decided.{opening_decided, pending_decided}
 use Rattle.sync_provider.proofs.Kept.{IsFree, request_free}
-use Rattle.sync_provider.proofs.RefreshTaken.{refresh_some}
-use Rattle.sync_provider.proofs.Refreshes.{first_settled, refresh_from-is}
+use Rattle.sync_provider.proofs.Places.{opening_place}
+use Rattle.sync_provider.proofs.RefreshTaken.{refresh_some, none_met}
+use Rattle.sync_provider.proofs.Streams.{HasHanded}
+use Rattle.sync_provider.proofs.Walking.{SendsRefresh, opened_refresh}
 use Rattle.sync_provider.proofs.Whereabouts.{where_session}
 use Rattle.cascade_nodes.specs.declared.node.ConsumerNode.{ConsumerNode}
 use Rattle.cascade_nodes.proofs.Fed.{HasRoom, IsAtRest, number_free}
@@ -112,43 +113,55 @@ module _ (lin : Lineage) (number : ℕ) (suffix : Name) (p : ProviderState) (f :
   abbrev own_session : SyncOperation
   own_session = session_of persists p.directory.sid p.directory.history f.consumer.spec writes
 
-  -- the search as it is opened
+  own_is : own_session ≡ operation
+  own_is = λ i. session_of persists (sids_of number suffix p source i) (histories_of number suffix p source i) f.consumer.spec writes
+
+  -- the search as it is opened, of which nothing was handed out
   abbrev first_search : SearchState
   first_search = opening p.directory message_id f.consumer.spec start persists
 
-  -- all of its refresh is decided and pending
-  settled : first_search.progress ≡ settled_progress (length writes) (refresh_from own_session start (length writes)) []
-  settled =
-      first_settled own_session start (length writes)
-      ∙ ap (λ messages. settled_progress (length writes) messages []) (sym (refresh_from-is own_session start (length writes)))
+  first_has : HasHanded p.directory first_search []
+  first_has = record {
+    placed = record { handed = []; handed_later = []; place = opening_place p.directory message_id f.consumer.spec start persists };
+    all = refl;
+  }
 
-  rest_is : refresh_from own_session start (length writes) ≡ refresh_from operation start count
-  rest_is =
-      ap (λ sid. refresh_from (session_of persists sid p.directory.history f.consumer.spec writes) start (length writes)) (sids_of number suffix p source)
-      ∙ ap (λ history. refresh_from (session_of persists number history f.consumer.spec writes) start (length writes)) (histories_of number suffix p source)
-      ∙ ap (refresh_from operation start) (sym counted)
+  -- its refresh is pending, in pieces of which no write comes before the last
+  sends : SendsRefresh operation start count (length writes) (pending p.directory first_search)
+  sends =
+      subst (λ n. SendsRefresh operation start n (length writes) (pending p.directory first_search)) (sym counted)
+      (subst (λ (o : SyncOperation). SendsRefresh o start (length writes) (length writes) (pending p.directory first_search)) own_is
+      (opened_refresh p.directory first_search [] refl first_has refl))
+
+  abbrev pieces : List RefreshPiece
+  pieces = sends.pieces
 
   abbrev ahead : List SyncMessage
-  ahead = stream_over number f.consumer.spec writes opened start 0
+  ahead = stream_over number f.consumer.spec writes opened start pieces 0
 
   pending_is : pending p.directory first_search ≡ ahead
   pending_is =
-      pending_decided first_search (length writes) (opening_decided p.directory message_id f.consumer.spec start persists) p.directory
-      ∙ (λ i. (settled i).rest ++ (settled i).due)
-      ∙ (λ i. rest_is i ++ sym (none_later persists) i)
+      sends.whole
+      ∙ sym (append-nil (refresh operation start count pieces))
+      ∙ ap (λ ms. refresh operation start count pieces ++ ms) (sym (none_later persists))
+
+  ahead_some : HasNext ahead
+  ahead_some = prefix_some (refresh operation start count pieces) (cond persists [] []) (refresh_some operation start count pieces)
 
   opened_goes : GoesOn number after (with_search f persists at) opened known.entries
   opened_goes = record {
     session = record {
-      count = 0;
-      upto = omega (arith, counted);
       start = start;
       from = from;
+      pieces = pieces;
+      sliced = sends.cut;
+      count = 0;
+      upto = omega (arith, sends.last);
       taken = [];
       ahead = ahead;
       whole = refl;
       cut = false;
-      lasts = λ bad. absurd (false≢true bad);
+      late = λ bad. absurd (false≢true bad);
       linked = [];
       pending = ahead;
       left = refl;
@@ -161,18 +174,22 @@ module _ (lin : Lineage) (number : ℕ) (suffix : Name) (p : ProviderState) (f :
       id = refl;
       spec = refl;
       persists = refl;
+      start = refl;
+      accepted = sym counted;
       over = refl;
       same = pending_is;
-      decided = opening_decided p.directory message_id f.consumer.spec start persists;
-      some = λ waits. prefix_some (refresh_from operation start count) (cond persists (later operation count 0) []) (refresh_some operation start count);
+      stands = inl (refl, first_has);
+      walks = λ left. refl;
+      some = λ waits. ahead_some;
     };
     place = inl (record {
       begins = begins;
-      rest = refresh_from operation start count;
-      some = refresh_some operation start count;
+      rest = refresh operation start count pieces;
+      some = refresh_some operation start count pieces;
       whole = refl;
       beyond = refl;
       copy = λ i. asking persists (record f.consumer.copy { held = fed.held i });
+      met = none_met persists known.entries;
     });
   }
 
@@ -277,7 +294,7 @@ OpenedIn number suffix pair known persists (Err cause) = ⊥
 
 -- a search that goes on without a message in the link is open
 open_search : (number : ℕ) (p : ProviderState) (f : ConsumerNode) (opening : ReportedOpening) (entries : List Entry) → GoesOn number p f opening entries → IsAtRest f → ⊥
-open_search number p f opening entries goes rest = let is = where_session (session_over number f.consumer.spec p.directory.writes opening) goes.session.start opening.writes goes.session.count entries f.consumer.copy goes.session.taken goes.session.ahead goes.place in
+open_search number p f opening entries goes rest = let is = where_session (session_over number f.consumer.spec p.directory.writes opening) goes.session.start opening.writes goes.session.pieces goes.session.count entries f.consumer.copy goes.session.taken goes.session.ahead goes.place in
     let bad : None ≡ Some is.session = sym rest.session ∙ is.runs in
     let never : ⊥ = cc in
     never

@@ -1,9 +1,9 @@
 -- A message that is taken from the link is the next of those that the consumer is fed, and the last one of a refresh or of
--- a later write brings the content after some of the writes into effect.
-use Rattle.std.proofs.Common.{◌≡◌, ◌≤◌, ℕ, Bool, true, false, cond, Option, Some, None, List, [], ◌∷◌, ◌++◌, length, map, take, refl, ap, sym, ◌∙◌, inl, inr, arith, append_assoc, subst}
-use Rattle.std.specs.Prelude.{◌⊎◌, ◌||◌, ◌==◌, not, pos, All}
+-- a later write brings the content after some of the writes into effect; or it fills the stage and is refused.
+use Rattle.std.proofs.Common.{◌≡◌, ◌≢◌, ◌+◌, ◌<◌, ◌≤◌, ℕ, Bool, true, false, cond, Option, Some, None, List, [], ◌∷◌, ◌++◌, length, map, take, refl, ap, sym, ◌∙◌, inl, inr, arith, append_assoc, subst}
+use Rattle.std.specs.Prelude.{◌⊎◌, ◌||◌, ◌==◌, not, pos, codes, All}
 use Rattle.std.specs.Ordering.{int_eq}
-use Rattle.std.proofs.lemmas.Bool.{true≢false}
+use Rattle.std.proofs.lemmas.Bool.{false≢true}
 use Rattle.std.proofs.lemmas.Slice.Eq.{bytes_eq-Decides}
 use Rattle.ldap_constants.specs.declared.result_codes.TheConstants.{SUCCESS, BUSY}
 use Rattle.csn_cookie.specs.Cookie.{cookie_text, cookie_of_text}
@@ -23,27 +23,29 @@ use Rattle.entry_tree.specs.declared.entry.Entry.{Entry}
 use Rattle.entry_tree.specs.declared.op.Write.{Write}
 use Rattle.entry_tree.proofs.Directory.{ascends_filter}
 use Rattle.sync_model.specs.Copy.{Copy, SyncSession, Answer, refused, taken, taken_by, taken_in, taken_done, over}
-use Rattle.sync_model.specs.Copy.Fault.{OutOfPlace}
-use Rattle.sync_model.specs.Copy.Answer.{Staged, Stored, Over}
-use Rattle.sync_model.specs.Law.{Ascending, IsWithinLimits}
+use Rattle.sync_model.specs.Copy.Fault.{OutOfPlace, StageFull}
+use Rattle.sync_model.specs.Copy.Answer.{Staged, Stored, Over, Refused}
+use Rattle.sync_model.specs.Law.{Ascending, IsContentWithin, IsWithinLimits}
 use Rattle.sync_model.specs.Message.{SyncMessage}
-use Rattle.sync_model.specs.Stream.{SyncOperation, content_after}
-use Rattle.sync_model.specs.Within.{limit_fault, refused_by, taken_within}
+use Rattle.sync_model.specs.Message.SyncMessage.{AddOrModify, Delete, Present, IdSet, NewCookie, RefreshDelete, RefreshPresent, Done, Ignored}
+use Rattle.sync_model.specs.Stream.{SyncOperation, content_after, last_mark}
+use Rattle.sync_model.specs.Within.{puts_entry, limit_fault, refused_by, taken_within}
 use Rattle.sync_model.proofs.Histories.{ascends-state_of}
 use Rattle.sync_model.proofs.Groups.{heads, tails}
+use Rattle.sync_model.proofs.NextMessages.{HasNext}
+use Rattle.sync_model.proofs.Refresh.{marks-last}
 use Rattle.sync_model.proofs.WithoutCookie.{Agrees}
 use Rattle.sync_wire.specs.CanBeSent.{CanBeSent}
 use Rattle.sync_wire.proofs.OfSearch.{IsOfSearch}
-use Rattle.sync_provider.specs.Law.{Delivers}
 use Rattle.sync_provider.specs.Machine.{ProviderState}
 use Rattle.sync_provider.specs.Search.{busy_end, cookie_after}
-use Rattle.sync_provider.proofs.Coming.{StagesOne, IsOver, StoresOne, TakesOne, one_comes}
+use Rattle.sync_provider.proofs.Coming.{StagesOne, IsOver, StoresOne, FillsOne, TakesOne, one_comes}
 use Rattle.sync_provider.proofs.Whereabouts.{IsPast, IsWhere, HasSession, where_session}
 use Rattle.cascade_nodes.specs.declared.node.ConsumerNode.{ConsumerNode}
-use Rattle.cascade_nodes.proofs.Fed.{waits, cut_waits, IsAtRest, own_over}
+use Rattle.cascade_nodes.proofs.Fed.{waits, cut_waits, HasPending, IsAtRest, own_over}
 use Rattle.cascade_exchange.proofs.Owns.{owns-still}
 use Rattle.cascade_world.specs.Cookies.{held_cookie}
-use Rattle.cascade_world.specs.Exchange.{Agreement, agreement_of, copy_of, with_copy, number_of_cookie, stored_number, storing, taken_as, taken_from, taking}
+use Rattle.cascade_world.specs.Exchange.{Agreement, agreement_of, copy_of, with_copy, given_up, number_of_cookie, stored_number, storing, taken_as, taken_from, taking}
 use Rattle.cascade_laws.specs.Headline.{ReportedOpening, Known, known_after, NamesPrefix, session_over, stream_over, sent_octets}
 use Rattle.cascade_world.specs.Reception.{Came, came_of, received, ends_without_cookie}
 use Rattle.cascade_exchange.proofs.EndsWithoutCookie.{ending_answer}
@@ -52,7 +54,8 @@ use Rattle.cascade_world.specs.ReportLines.{Storing, ReportLine}
 use Rattle.cascade_world.specs.ReportLines.{ReportLine as reported}
 use Rattle.cascade_laws.proofs.Carried.{received_sent}
 use Rattle.cascade_laws.proofs.Composing.{promises-still, kept-reported}
-use Rattle.cascade_laws.proofs.Feeding.{IsSource, GoesOn, IsGoing, IsFed, IsRightOf, KeepsPromises, IsKept, frame_of}
+use Rattle.cascade_laws.proofs.FedCutting.{emptied_rests, given_up_kept}
+use Rattle.cascade_laws.proofs.Feeding.{IsSource, Feeds, far_of, GoesOn, IsGoing, IsFed, IsRightOf, IsFaultAfter, KeepsPromises, IsKept, frame_of}
 use Rattle.cascade_laws.proofs.Sharing.{others-none}
 
 abbrev Name : Type 0
@@ -114,41 +117,61 @@ pub none_left : (link messages : List SyncMessage) → link ++ messages ≡ [] �
 none_left [] messages same = (refl, same)
 none_left (m ∷ link) messages same = let never : ⊥ = cc in absurd never
 
+-- nor is there where some are left
+none_short : (prefix left : List SyncMessage) → HasNext left → prefix ++ left ≡ [] → ⊥
+none_short [] left some none = let bad : some.next ∷ some.later ≡ [] = sym some.same ∙ none in cc
+none_short (m ∷ prefix) left some none = cc
+
 -- the first message is the next of the Stream, or the end with busy
-record IsFirst (cut : Bool) (ahead : List SyncMessage) (m : SyncMessage) (more : List SyncMessage) : Type 0 where
+record IsFirst (persists cut : Bool) (ahead : List SyncMessage) (m : SyncMessage) (more : List SyncMessage) : Type 0 where
   beyond : List SyncMessage
   next : ahead ≡ m ∷ beyond
-  left : Delivers cut more beyond
+  left : Feeds persists cut more beyond
 
 record IsBusy (cut : Bool) (m : SyncMessage) (more : List SyncMessage) : Type 0 where
   over_is : cut ≡ true
   message : m ≡ busy_end
   none : more ≡ []
 
-first_left : (cut : Bool) (ahead : List SyncMessage) (m : SyncMessage) (more : List SyncMessage) → Delivers cut (m ∷ more) ahead → IsFirst cut ahead m more ⊎ IsBusy cut m more
-first_left false ahead m more left = inl (record { beyond = more; next = sym left; left = refl })
-first_left true ahead m more left = by left.prefix left.left left.is left.split
+first_left : (persists cut : Bool) (ahead : List SyncMessage) (m : SyncMessage) (more : List SyncMessage) → Feeds persists cut (m ∷ more) ahead → IsFirst persists cut ahead m more ⊎ IsBusy cut m more
+first_left persists false ahead m more left = inl (record { beyond = more; next = sym left; left = refl })
+first_left persists true ahead m more left = by left.prefix left.left left.some left.is left.split
   where
-    by : (prefix dropped : List SyncMessage) → m ∷ more ≡ prefix ++ busy_end ∷ [] → prefix ++ dropped ≡ ahead → IsFirst true ahead m more ⊎ IsBusy true m more
-    by [] dropped one all = inr (record { over_is = refl; message = heads m busy_end more [] one; none = tails m busy_end more [] one })
-    by (x ∷ prefix) dropped one all =
+    by : (prefix dropped : List SyncMessage) → (persists ≡ false → HasNext dropped) → m ∷ more ≡ prefix ++ busy_end ∷ [] → prefix ++ dropped ≡ ahead → IsFirst persists true ahead m more ⊎ IsBusy true m more
+    by [] dropped some one all = inr (record { over_is = refl; message = heads m busy_end more [] one; none = tails m busy_end more [] one })
+    by (x ∷ prefix) dropped some one all =
         inl (record {
           beyond = prefix ++ dropped;
           next = sym all ∙ ap (λ y. y ∷ (prefix ++ dropped)) (sym (heads m x more (prefix ++ busy_end ∷ []) one));
-          left = record { prefix = prefix; left = dropped; split = refl; is = tails m x more (prefix ++ busy_end ∷ []) one };
+          left = record { prefix = prefix; left = dropped; split = refl; is = tails m x more (prefix ++ busy_end ∷ []) one; some = some };
         })
 
--- the end with busy ends a search that goes on
-taken_over : (held : Copy) (session : SyncSession) → held.session ≡ Some session → session.id ≡ 1 → session.persists ≡ true
+-- the end with busy ends a search
+taken_over : (held : Copy) (session : SyncSession) → held.session ≡ Some session → session.id ≡ 1
     → taken_within 1 held busy_end ≡ (record { held = held.held; cookie = held.cookie; session = None }, Over (pos BUSY))
-taken_over held session runs id mode =
-    ap (λ (o : Copy × Answer). refused_by (limit_fault false o.0 o.1) held o) here ∙ refl
+taken_over held session runs id = ap (λ (o : Copy × Answer). refused_by (limit_fault false o.0 o.1) held o) here
   where
+    by : (persists : Bool) → cond (persists || not (int_eq (pos BUSY) (pos SUCCESS))) (over held (pos BUSY)) (taken_done held session None) ≡ over held (pos BUSY)
+    by true = refl
+    by false = refl
+
     here : taken 1 held busy_end ≡ over held (pos BUSY)
     here =
         ap (λ found. taken_by found 1 held busy_end) runs
         ∙ ap (λ k. cond (1 == k) (taken_in held session busy_end) (refused held OutOfPlace)) id
-        ∙ ap (λ b. cond (b || not (int_eq (pos BUSY) (pos SUCCESS))) (over held (pos BUSY)) (taken_done held session None)) mode
+        ∙ by session.persists
+
+-- a message that puts an entry ends no refresh
+puts_no_end : (m : SyncMessage) → puts_entry m ≡ true → ends_without_cookie m ≡ false
+puts_no_end (AddOrModify adds entry cookie) puts = refl
+puts_no_end (Delete uuid name cookie) puts = absurd (false≢true puts)
+puts_no_end (Present uuid cookie) puts = absurd (false≢true puts)
+puts_no_end (IdSet deletes uuids cookie) puts = absurd (false≢true puts)
+puts_no_end (NewCookie cookie) puts = absurd (false≢true puts)
+puts_no_end (RefreshDelete done cookie) puts = absurd (false≢true puts)
+puts_no_end (RefreshPresent done cookie) puts = absurd (false≢true puts)
+puts_no_end (Done code control) puts = absurd (false≢true puts)
+puts_no_end Ignored puts = absurd (false≢true puts)
 
 -- ---- what a consumer is reported
 
@@ -179,12 +202,19 @@ module _ (lin : Lineage) (number : ℕ) (suffix : Name) (p : ProviderState) (f :
   abbrev held : Copy
   held = copy_of f
 
-  -- what a taking leaves: the search goes on, or what is held is the content after some writes not before the opening
+  -- the number of writes at the last piece
+  abbrev last : ℕ
+  last = last_mark opening.writes goes.session.pieces
+
+  opened_low : opening.writes ≤ last
+  opened_low = marks-last goes.session.pieces opening.writes goes.session.sliced.rises
+
+  -- what a taking leaves: the search goes on; or the consumer is at rest, and what it holds is the content after some writes
+  -- not before the opening, or writes came since then
   pub record IsTaken (after : Agreement) (line : ReportLine) : Type 0 where
     pub kept : IsKept number suffix (agreement_of p f lin) after (line ∷ []) known
     pub then : GoesOn number after.provider after.consumer_node opening (known_after f.name known line).entries
-        ⊎ (IsAtRest after.consumer_node × ((opening.persists ≡ true)
-        ⊎ ((known_after f.name known line).entries ≡ content_at number f.consumer.spec writes opening.writes)))
+        ⊎ (IsAtRest after.consumer_node × ((opening.writes < length writes) ⊎ IsContentWithin operation opening.writes (length writes) (known_after f.name known line).entries))
     pub still : (known_after f.name known line).opening ≡ known.opening
 
   module _ (m : SyncMessage) (rest : List SyncMessage) (first : goes.session.linked ≡ m ∷ rest) where
@@ -197,11 +227,11 @@ module _ (lin : Lineage) (number : ℕ) (suffix : Name) (p : ProviderState) (f :
     abbrev after : Copy → ConsumerNode
     after copy = record (with_copy f copy) { link = left }
 
-    remains : Delivers goes.session.cut (m ∷ (rest ++ goes.session.pending)) goes.session.ahead
-    remains = subst (λ ms. Delivers goes.session.cut (ms ++ goes.session.pending) goes.session.ahead) first goes.session.left
+    remains : Feeds opening.persists goes.session.cut (m ∷ (rest ++ goes.session.pending)) goes.session.ahead
+    remains = subst (λ ms. Feeds opening.persists goes.session.cut (ms ++ goes.session.pending) goes.session.ahead) first goes.session.left
 
     has_session : HasSession opening.persists held
-    has_session = where_session operation goes.session.start opening.writes goes.session.count known.entries held goes.session.taken goes.session.ahead goes.place
+    has_session = where_session operation goes.session.start opening.writes goes.session.pieces goes.session.count known.entries held goes.session.taken goes.session.ahead goes.place
 
     -- the bytes are decoded as the message
     decoded_is : IsOfSearch m → ends_without_cookie m ≡ false → received held (sent_octets m) ≡ (outcome.0, came_of outcome.1)
@@ -216,42 +246,60 @@ module _ (lin : Lineage) (number : ℕ) (suffix : Name) (p : ProviderState) (f :
 
     -- ---- the next message of the Stream
 
-    module _ (is : IsFirst goes.session.cut goes.session.ahead m (rest ++ goes.session.pending)) where
-      more_taken : (goes.session.taken ++ m ∷ []) ++ is.beyond ≡ stream_over number f.consumer.spec writes opening goes.session.start goes.session.count
+    module _ (is : IsFirst opening.persists goes.session.cut goes.session.ahead m (rest ++ goes.session.pending)) where
+      more_taken : (goes.session.taken ++ m ∷ []) ++ is.beyond ≡ stream_over number f.consumer.spec writes opening goes.session.start goes.session.pieces goes.session.count
       more_taken = append_assoc goes.session.taken (m ∷ []) is.beyond ∙ ap (λ ms. goes.session.taken ++ ms) (sym is.next) ∙ goes.session.whole
 
-      reported_still : opening.sent ≡ map sent_octets ((goes.session.taken ++ m ∷ []) ++ rest)
-      reported_still = goes.session.reported ∙ ap (λ ms. map sent_octets (goes.session.taken ++ ms)) first ∙ ap (map sent_octets) (sym (append_assoc goes.session.taken (m ∷ []) rest))
+      handed_still : goes.session.taken ++ goes.session.linked ≡ (goes.session.taken ++ m ∷ []) ++ rest
+      handed_still = ap (λ ms. goes.session.taken ++ ms) first ∙ sym (append_assoc goes.session.taken (m ∷ []) rest)
 
       -- the search goes on from there
-      goes_now : (copy : Copy) (entries : List Entry) → IsWhere operation goes.session.start opening.writes goes.session.count entries copy (goes.session.taken ++ m ∷ []) is.beyond → GoesOn number p (after copy) opening entries
+      goes_now : (copy : Copy) (entries : List Entry) → IsWhere operation goes.session.start opening.writes goes.session.pieces goes.session.count entries copy (goes.session.taken ++ m ∷ []) is.beyond
+          → GoesOn number p (after copy) opening entries
       goes_now copy entries place = record {
         session = record {
-          count = goes.session.count;
-          upto = goes.session.upto;
           start = goes.session.start;
           from = goes.session.from;
+          pieces = goes.session.pieces;
+          sliced = goes.session.sliced;
+          count = goes.session.count;
+          upto = goes.session.upto;
           taken = goes.session.taken ++ m ∷ [];
           ahead = is.beyond;
           whole = more_taken;
           cut = goes.session.cut;
-          lasts = goes.session.lasts;
+          late = goes.session.late;
           linked = rest;
           pending = goes.session.pending;
           left = is.left;
-          reported = reported_still;
+          reported = goes.session.reported ∙ ap (map sent_octets) handed_still;
         };
         link = refl;
-        search = goes.search;
+        search =
+            subst (λ ms. HasPending p.directory p.searches f.consumer.spec opening.persists goes.session.cut (far_of goes.session.start opening goes.session.count ms) f.search goes.session.pending) handed_still
+            goes.search;
         place = place;
       }
 
-      takes : TakesOne operation ascending within sent texts goes.session.start opening.writes goes.session.count known.entries held goes.session.taken m is.beyond
-      takes =
-          one_comes operation ascending within sent texts goes.session.start opening.writes goes.session.count known.entries held goes.session.taken is.beyond m fed.ascending
-          (subst (IsWhere operation goes.session.start opening.writes goes.session.count known.entries held goes.session.taken) is.next goes.place)
+      -- what may come of it
+      abbrev Stages : Type 0
+      Stages = StagesOne operation ascending within sent texts goes.session.start opening.writes goes.session.pieces goes.session.sliced goes.session.count known.entries held (goes.session.taken ++ m ∷ []) is.beyond outcome
 
-      staged_is : StagesOne operation ascending within sent texts goes.session.start opening.writes goes.session.count known.entries held (goes.session.taken ++ m ∷ []) is.beyond outcome → Is outcome.0 (came_of outcome.1)
+      abbrev Stores : Type 0
+      Stores = StoresOne operation ascending within sent texts goes.session.start opening.writes goes.session.pieces goes.session.sliced goes.session.count known.entries is.beyond outcome
+
+      abbrev Ends : Type 0
+      Ends = IsOver operation ascending within sent texts goes.session.start opening.writes goes.session.pieces goes.session.sliced goes.session.count is.beyond outcome.0
+
+      abbrev Fills : Type 0
+      Fills = FillsOne operation ascending within sent texts goes.session.start opening.writes goes.session.pieces goes.session.sliced goes.session.count known.entries held goes.session.taken m
+
+      takes : TakesOne operation ascending within sent texts goes.session.start opening.writes goes.session.pieces goes.session.sliced goes.session.count known.entries held goes.session.taken m is.beyond
+      takes =
+          one_comes operation ascending within sent texts goes.session.start opening.writes goes.session.pieces goes.session.sliced goes.session.count known.entries held goes.session.taken is.beyond m fed.ascending
+          (subst (IsWhere operation goes.session.start opening.writes goes.session.pieces goes.session.count known.entries held goes.session.taken) is.next goes.place)
+
+      staged_is : Stages → Is outcome.0 (came_of outcome.1)
       staged_is now =
           subst (λ a. Is outcome.0 (came_of a)) (sym now.answer) (record {
             kept = kept-reported number suffix (agreement_of p f lin) (agreement_of p (after outcome.0) lin) (reported.Taken f.name) known (λ name k. refl) tt (record {
@@ -274,9 +322,43 @@ module _ (lin : Lineage) (number : ℕ) (suffix : Name) (p : ProviderState) (f :
             still = refl;
           })
 
+      -- ---- the stage is full
+
+      module _ (full : Fills) where
+        -- a write came since the opening
+        since : opening.writes < length writes
+        since = let later : last ≢ opening.writes = full.later in omega (arith, opened_low, later, goes.session.upto)
+
+        fault : IsFaultAfter (frame_of (agreement_of p f lin)) known (codes "StageFull")
+        fault = record {
+          opening = opening;
+          latest = latest;
+          full = record {
+            named = refl;
+            since = since;
+            earlier = goes.session.taken;
+            message = m;
+            rest = rest;
+            sent = goes.session.reported ∙ ap (λ ms. map sent_octets (goes.session.taken ++ ms)) first;
+            fills = full.fills opening.cookie;
+          };
+        }
+
+        given : Is (record held { session = None }) (came_of (Refused StageFull))
+        given = record {
+          kept =
+              kept-reported number suffix (agreement_of p f lin) (given_up (agreement_of p f lin) held) (reported.Faulted f.name (codes "StageFull")) known (λ name k. refl) (refl, fault)
+              (given_up_kept lin number suffix p f known source fed);
+          then = inr (emptied_rests f, inl since);
+          still = refl;
+        }
+
+        filled_is : Is outcome.0 (came_of outcome.1)
+        filled_is = subst (λ (o : Copy × Answer). Is o.0 (came_of o.1)) (sym full.refused) given
+
       -- ---- a content is stored
 
-      module _ (now : StoresOne operation ascending within sent texts goes.session.start opening.writes goes.session.count known.entries is.beyond outcome) where
+      module _ (now : Stores) where
         abbrev content : List Entry
         content = content_at number f.consumer.spec writes now.stored.number
 
@@ -307,7 +389,7 @@ module _ (lin : Lineage) (number : ℕ) (suffix : Name) (p : ProviderState) (f :
           prefix = omega (arith, right_number, low);
           opening = opening;
           latest = latest;
-          no_shorter = omega (arith, right_number, now.stored.from);
+          no_shorter = omega (arith, right_number, now.stored.from, opened_low);
           exactly = now.stored.held ∙ ap (λ k. select f.consumer.spec (entries_after number (take k writes))) (sym right_number);
           cookie = text_is;
           names = cookie_names number suffix p n source (omega (arith, right_number, low));
@@ -333,29 +415,37 @@ module _ (lin : Lineage) (number : ℕ) (suffix : Name) (p : ProviderState) (f :
             (subst (IsPromised number f.consumer.spec writes content) (sym (cookie_read number suffix p now.stored.number source))
             (λ own. record { count = now.stored.number; within = low; not_below = is_upto-itself (last_csn (start number) (take now.stored.number writes)); same = refl })))
 
-        no_more : IsOver operation ascending within sent texts goes.session.start opening.writes goes.session.count is.beyond outcome.0 → goes.session.cut ≡ false
-        no_more over = by goes.session.cut refl
+        no_more : Ends → goes.session.cut ≡ false
+        no_more over = by goes.session.cut refl is.left
           where
-            by : (cut : Bool) → goes.session.cut ≡ cut → goes.session.cut ≡ false
-            by false here = here
-            by true here = absurd (true≢false (sym (goes.session.lasts here) ∙ over.ends))
+            by : (cut : Bool) → goes.session.cut ≡ cut → Feeds opening.persists cut (rest ++ goes.session.pending) is.beyond → goes.session.cut ≡ false
+            by false here left' = here
+            by true here left' = absurd (none_short left'.prefix left'.left (left'.some over.ends) (left'.split ∙ over.none))
 
-        rests : IsOver operation ascending within sent texts goes.session.start opening.writes goes.session.count is.beyond outcome.0 → IsAtRest (after outcome.0)
-        rests over = record { search = own_over p.searches f.search p f opening.persists goes.session.cut goes.session.pending none.1 (ap (λ b. waits b goes.session.cut) over.ends) goes.search; session = over.session; link = ap (map sent_octets) none.0 }
+        rests : Ends → IsAtRest (after outcome.0)
+        rests over = record {
+          search =
+              own_over p.searches f.search p f opening.persists goes.session.cut (far_of goes.session.start opening goes.session.count (goes.session.taken ++ goes.session.linked)) goes.session.pending none.1
+              (ap (λ b. waits b goes.session.cut) over.ends) goes.search;
+          session = over.session;
+          link = ap (map sent_octets) none.0;
+        }
           where
             none : (rest ≡ []) × (goes.session.pending ≡ [])
-            none = none_left rest goes.session.pending (subst (λ cut. Delivers cut (rest ++ goes.session.pending) is.beyond) (no_more over) is.left ∙ over.none)
+            none = none_left rest goes.session.pending (subst (λ cut. Feeds opening.persists cut (rest ++ goes.session.pending) is.beyond) (no_more over) is.left ∙ over.none)
 
-        state_now : IsPast operation opening.writes goes.session.count (content_after operation now.stored.number) outcome.0 is.beyond ⊎ IsOver operation ascending within sent texts goes.session.start opening.writes goes.session.count is.beyond outcome.0
-            → GoesOn number p (after outcome.0) opening outcome.0.held ⊎ (IsAtRest (after outcome.0) × ((opening.persists ≡ true) ⊎ (outcome.0.held ≡ content_at number f.consumer.spec writes opening.writes)))
+        -- the content after some writes is held then
+        content_held : IsContentWithin operation opening.writes (length writes) outcome.0.held
+        content_held = record { number = now.stored.number; from = omega (arith, opened_low, now.stored.from); upto = low; same = now.stored.held }
+
+        abbrev GoesThen : List Entry → Type 0
+        GoesThen entries = GoesOn number p (after outcome.0) opening entries ⊎ (IsAtRest (after outcome.0) × ((opening.writes < length writes) ⊎ IsContentWithin operation opening.writes (length writes) entries))
+
+        state_now : IsPast operation last goes.session.count (content_after operation now.stored.number) outcome.0 is.beyond ⊎ Ends → GoesThen outcome.0.held
         state_now (inl past) = inl (subst (GoesOn number p (after outcome.0) opening) (sym now.stored.held) (goes_now outcome.0 content (inr past)))
-        state_now (inr over) = inr (rests over, inr (now.stored.held ∙ ap (content_at number f.consumer.spec writes) (ends_there over)))
-          where
-            ends_there : IsOver operation ascending within sent texts goes.session.start opening.writes goes.session.count is.beyond outcome.0 → now.stored.number ≡ opening.writes
-            ends_there over = now.whole over.ends
+        state_now (inr over) = inr (rests over, inr content_held)
 
-        fed_now : GoesOn number p (after outcome.0) opening outcome.0.held ⊎ (IsAtRest (after outcome.0) × ((opening.persists ≡ true) ⊎ (outcome.0.held ≡ content_at number f.consumer.spec writes opening.writes)))
-            → IsFed number p (after outcome.0) then_known
+        fed_now : GoesThen outcome.0.held → IsFed number p (after outcome.0) then_known
         fed_now state = record {
           held = refl;
           ascending = ap ascends now.stored.held ∙ content_ascends;
@@ -365,8 +455,7 @@ module _ (lin : Lineage) (number : ℕ) (suffix : Name) (p : ProviderState) (f :
           state = by state;
         }
           where
-            by : GoesOn number p (after outcome.0) opening outcome.0.held ⊎ (IsAtRest (after outcome.0) × ((opening.persists ≡ true) ⊎ (outcome.0.held ≡ content_at number f.consumer.spec writes opening.writes)))
-                → IsAtRest (after outcome.0) ⊎ IsGoing number p (after outcome.0) then_known
+            by : GoesThen outcome.0.held → IsAtRest (after outcome.0) ⊎ IsGoing number p (after outcome.0) then_known
             by (inl going) = inr (record { opening = opening; latest = latest; goes = going })
             by (inr rest') = inl rest'.0
 
@@ -381,11 +470,7 @@ module _ (lin : Lineage) (number : ℕ) (suffix : Name) (p : ProviderState) (f :
             owns = owns-still lin p f (after outcome.0) (λ at mine. mine);
             elsewhere = subst (KeepsPromises number f.consumer.spec known) (sym known_is) promises_elsewhere;
           };
-          then =
-              subst
-              (λ (k : Known). GoesOn number p (after outcome.0) opening k.entries
-              ⊎ (IsAtRest (after outcome.0) × ((opening.persists ≡ true) ⊎ (k.entries ≡ content_at number f.consumer.spec writes opening.writes))))
-              (sym known_is) (state_now now.then);
+          then = subst (λ (k : Known). GoesThen k.entries) (sym known_is) (state_now now.then);
           still = ap (λ (k : Known). k.opening) known_is;
         })
           where
@@ -395,15 +480,15 @@ module _ (lin : Lineage) (number : ℕ) (suffix : Name) (p : ProviderState) (f :
       first_is : IsTaken (taken_as (agreement_of p f lin) left (received held (sent_octets m)).0 (received held (sent_octets m)).1).0 (taken_as (agreement_of p f lin) left (received held (sent_octets m)).0 (received held (sent_octets m)).1).1
       first_is = subst (λ (h : Copy × Came). Is h.0 h.1) (sym (decoded_is takes.can (cookied takes.comes))) (by takes.comes)
         where
-          cookied : StagesOne operation ascending within sent texts goes.session.start opening.writes goes.session.count known.entries held (goes.session.taken ++ m ∷ []) is.beyond outcome
-              ⊎ StoresOne operation ascending within sent texts goes.session.start opening.writes goes.session.count known.entries is.beyond outcome → ends_without_cookie m ≡ false
+          cookied : Stages ⊎ (Stores ⊎ Fills) → ends_without_cookie m ≡ false
           cookied (inl now) = agrees Staged now.answer
-          cookied (inr now) = agrees (Stored now.stored.commit) now.stored.answer
+          cookied (inr (inl now)) = agrees (Stored now.stored.commit) now.stored.answer
+          cookied (inr (inr full)) = puts_no_end m (full.fills opening.cookie).puts
 
-          by : StagesOne operation ascending within sent texts goes.session.start opening.writes goes.session.count known.entries held (goes.session.taken ++ m ∷ []) is.beyond outcome
-              ⊎ StoresOne operation ascending within sent texts goes.session.start opening.writes goes.session.count known.entries is.beyond outcome → Is outcome.0 (came_of outcome.1)
+          by : Stages ⊎ (Stores ⊎ Fills) → Is outcome.0 (came_of outcome.1)
           by (inl now) = staged_is now
-          by (inr now) = stored_is now
+          by (inr (inl now)) = stored_is now
+          by (inr (inr full)) = filled_is full
 
     -- ---- the end with busy
 
@@ -411,15 +496,14 @@ module _ (lin : Lineage) (number : ℕ) (suffix : Name) (p : ProviderState) (f :
       abbrev ended : Copy
       ended = record { held = held.held; cookie = held.cookie; session = None }
 
-      goes_past : opening.persists ≡ true
-      goes_past = goes.session.lasts is.over_is
-
       outcome_is : outcome ≡ (ended, Over (pos BUSY))
-      outcome_is = ap (taken_within 1 held) is.message ∙ taken_over held has_session.session has_session.runs has_session.id (has_session.mode ∙ goes_past)
+      outcome_is = ap (taken_within 1 held) is.message ∙ taken_over held has_session.session has_session.runs has_session.id
 
       rests_now : IsAtRest (after ended)
       rests_now = record {
-        search = own_over p.searches f.search p f opening.persists goes.session.cut goes.session.pending none.1 (ap (waits opening.persists) is.over_is ∙ cut_waits opening.persists) goes.search;
+        search =
+            own_over p.searches f.search p f opening.persists goes.session.cut (far_of goes.session.start opening goes.session.count (goes.session.taken ++ goes.session.linked)) goes.session.pending none.1
+            (ap (waits opening.persists) is.over_is ∙ cut_waits opening.persists) goes.search;
         session = refl;
         link = ap (map sent_octets) none.0;
       }
@@ -445,7 +529,7 @@ module _ (lin : Lineage) (number : ℕ) (suffix : Name) (p : ProviderState) (f :
           owns = owns-still lin p f (after ended) (λ at mine. mine);
           elsewhere = promises-still number f.consumer.spec known;
         });
-        then = inr (rests_now, inl goes_past);
+        then = inr (rests_now, inl (goes.session.late is.over_is));
         still = refl;
       }
 
@@ -456,9 +540,9 @@ module _ (lin : Lineage) (number : ℕ) (suffix : Name) (p : ProviderState) (f :
 
     -- the first message of the link is taken, and the consumer is fed as before
     pub one_taken : IsTaken (taken_as (agreement_of p f lin) left (received held (sent_octets m)).0 (received held (sent_octets m)).1).0 (taken_as (agreement_of p f lin) left (received held (sent_octets m)).0 (received held (sent_octets m)).1).1
-    one_taken = by (first_left goes.session.cut goes.session.ahead m (rest ++ goes.session.pending) remains)
+    one_taken = by (first_left opening.persists goes.session.cut goes.session.ahead m (rest ++ goes.session.pending) remains)
       where
-        by : IsFirst goes.session.cut goes.session.ahead m (rest ++ goes.session.pending) ⊎ IsBusy goes.session.cut m (rest ++ goes.session.pending)
+        by : IsFirst opening.persists goes.session.cut goes.session.ahead m (rest ++ goes.session.pending) ⊎ IsBusy goes.session.cut m (rest ++ goes.session.pending)
             → IsTaken (taken_as (agreement_of p f lin) left (received held (sent_octets m)).0 (received held (sent_octets m)).1).0 (taken_as (agreement_of p f lin) left (received held (sent_octets m)).0 (received held (sent_octets m)).1).1
         by (inl is) = first_is is
         by (inr is) = busy_is is

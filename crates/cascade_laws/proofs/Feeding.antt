@@ -1,6 +1,6 @@
 -- What holds of a provider of a script and of each of its consumers at every moment of a run, and what each part of an
 -- event keeps of that.
-use Rattle.std.specs.Prelude.{◌≡◌, ◌≢◌, ◌⊎◌, ℕ, pos, ◌+◌, ◌≤◌, Bool, true, Option, Some, None, Ok, List, [], ◌∷◌, ◌++◌, length, map, take, fold}
+use Rattle.std.specs.Prelude.{◌≡◌, ◌≢◌, ◌⊎◌, ℕ, pos, ◌+◌, ◌<◌, ◌≤◌, Bool, true, false, Option, Some, None, Ok, List, [], ◌∷◌, ◌++◌, length, map, take, fold}
 use Rattle.ldap_constants.specs.declared.result_codes.TheConstants.{BUSY, E_SYNC_REFRESH_REQUIRED}
 use Rattle.csn_cookie.specs.Csn.{CsnValue, IsCsn, start}
 use Rattle.csn_cookie.specs.CsnMaker.{next_csn}
@@ -17,13 +17,14 @@ use Rattle.entry_tree.specs.declared.entry.Entry.{Entry}
 use Rattle.entry_tree.specs.declared.op.Op.TheVariants.{Commit}
 use Rattle.entry_tree.specs.declared.op.Write.{Write}
 use Rattle.sync_model.specs.Incremental.{number_of}
+use Rattle.sync_model.specs.Law.{IsCut}
 use Rattle.sync_model.specs.Message.{SyncMessage}
-use Rattle.sync_model.specs.Stream.{Start, later}
+use Rattle.sync_model.specs.Stream.{Start, RefreshPiece, last_mark}
+use Rattle.sync_model.proofs.NextMessages.{HasNext}
 use Rattle.sync_provider.specs.Committing.{commit_refusal}
-use Rattle.sync_provider.specs.Law.{Delivers}
 use Rattle.sync_provider.specs.Machine as machine
 use Rattle.sync_provider.specs.Machine.{ProviderState, fresh, log_limited, queue_limited}
-use Rattle.sync_provider.specs.Search.{cookie_after, pending}
+use Rattle.sync_provider.specs.Search.{busy_end, cookie_after}
 use Rattle.sync_provider.specs.declared.provider.Kind.{Kind}
 use Rattle.sync_provider.specs.declared.provider.Kind.TheVariants.{Root, Replica}
 use Rattle.sync_provider.specs.declared.writing.CommitFault.{CommitFault}
@@ -36,11 +37,11 @@ use Rattle.cascade_exchange.specs.declared.exchange.Exchange.{Exchange}
 use Rattle.cascade_exchange.specs.declared.exchange.Exchange.TheVariants as goes
 use Rattle.cascade_exchange.proofs.Owns.{OwnsNew}
 use Rattle.cascade_nodes.specs.declared.node.ConsumerNode.{ConsumerNode}
-use Rattle.cascade_nodes.proofs.Fed.{HasPending, IsAtRest, AreApart, HasRoom}
+use Rattle.cascade_nodes.proofs.Fed.{SoFar, HasPending, IsAtRest, AreApart, HasRoom}
 use Rattle.cascade_world.specs.Cookies.{held_cookie}
 use Rattle.cascade_world.specs.Directory.{logged_directory, wrote_change}
 use Rattle.cascade_world.specs.Exchange.{Agreement, part_of, idle, respecs}
-use Rattle.cascade_laws.specs.Headline.{ReportedOpening, Known, nothing_known, known_after, IsUnserved, IsOpenedAt, NamesPrefix, BeginsFrom, session_over, stream_over, sent_octets, IsNextOf}
+use Rattle.cascade_laws.specs.Headline.{ReportedOpening, Known, nothing_known, known_after, IsUnserved, IsOpenedAt, NamesPrefix, BeginsFrom, session_over, stream_over, sent_octets, IsNextOf, IsStageFull}
 use Rattle.cascade_world.specs.Origins.{Lineage, origin_of}
 use Rattle.cascade_world.specs.ReportLines.{Storing, ReportLine}
 use Rattle.cascade_world.specs.ReportLines.ReportLine.{Opened, Refused, Sent, Stored, Ended, Faulted, Settled, Clocked, Shown}
@@ -63,30 +64,52 @@ pub record IsSource (number : ℕ) (suffix : List (List TypeAndValue)) (p : Prov
 abbrev pub Promises : ℕ → Search → List Write → Known → Type 0
 Promises number search writes known = IsPromised number search writes known.entries (held_cookie known.cookie)
 
--- how far the search of an opening is over these writes: its messages, up to all writes after the opening, are those
--- that were taken and those to come; what is in the link and what is pending are those to come, or are cut short
+-- a prefix of these messages, and then the end with busy; if the search ends with its refresh, it is not all of them
+pub record IsCutShort (persists : Bool) (messages ahead : List SyncMessage) : Type 0 where
+  pub prefix : List SyncMessage
+  pub left : List SyncMessage
+  pub split : prefix ++ left ≡ ahead
+  pub is : messages ≡ prefix ++ busy_end ∷ []
+  pub some : persists ≡ false → HasNext left
+
+-- all of these messages, or they are cut short
+abbrev pub Feeds : (persists cut : Bool) → (messages ahead : List SyncMessage) → Type 0
+Feeds persists false messages ahead = messages ≡ ahead
+Feeds persists true messages ahead = IsCutShort persists messages ahead
+
+-- how far the search of an opening is over these writes, which some pieces cut and n writes came after: its messages up to all
+-- writes are those that were taken and those to come; what is in the link and what is pending are those to come, or are cut
+-- short since a write came
 pub record IsUnderWay (number : ℕ) (search : Search) (writes : List Write) (opening : ReportedOpening) : Type 0 where
-  pub count : ℕ
-  pub upto : opening.writes + count ≡ length writes
   pub start : Start
   pub from : BeginsFrom number (take opening.writes writes) opening.cookie (number_of start)
+  pub pieces : List RefreshPiece
+  pub sliced : IsCut (session_over number search writes opening) start opening.writes pieces
+  pub count : ℕ
+  pub upto : last_mark opening.writes pieces + count ≡ length writes
   pub taken : List SyncMessage
   pub ahead : List SyncMessage
-  pub whole : taken ++ ahead ≡ stream_over number search writes opening start count
+  pub whole : taken ++ ahead ≡ stream_over number search writes opening start pieces count
   pub cut : Bool
-  pub lasts : cut ≡ true → opening.persists ≡ true
+  pub late : cut ≡ true → opening.writes < length writes
   pub linked : List SyncMessage
   pub pending : List SyncMessage
-  pub left : Delivers cut (linked ++ pending) ahead
+  pub left : Feeds opening.persists cut (linked ++ pending) ahead
   pub reported : opening.sent ≡ map sent_octets (taken ++ linked)
+
+-- as the provider has it
+abbrev pub far_of : Start → ReportedOpening → ℕ → List SyncMessage → SoFar
+far_of start opening count handed = record { start = start; opened = opening.writes; later = count; handed = handed }
 
 -- a search of that opening goes on between the provider and the consumer: the link, the open search and what is held
 -- are as far as it is
 pub record GoesOn (number : ℕ) (p : ProviderState) (f : ConsumerNode) (opening : ReportedOpening) (entries : List Entry) : Type 0 where
   pub session : IsUnderWay number f.consumer.spec p.directory.writes opening
   pub link : f.link ≡ map sent_octets session.linked
-  pub search : HasPending p.directory p.searches f.consumer.spec opening.persists session.cut f.search session.pending
-  pub place : IsWhere (session_over number f.consumer.spec p.directory.writes opening) session.start opening.writes session.count entries f.consumer.copy session.taken session.ahead
+  pub search :
+      HasPending p.directory p.searches f.consumer.spec opening.persists session.cut (far_of session.start opening session.count (session.taken ++ session.linked)) f.search session.pending
+  pub place :
+      IsWhere (session_over number f.consumer.spec p.directory.writes opening) session.start opening.writes session.pieces session.count entries f.consumer.copy session.taken session.ahead
 
 -- the search of the latest opening goes on
 pub record IsGoing (number : ℕ) (p : ProviderState) (f : ConsumerNode) (known : Known) : Type 0 where
@@ -151,6 +174,12 @@ pub record IsSettledOf (number : ℕ) (frame : Frame) (known : Known) (n : ℕ) 
   pub all : n ≡ length frame.writes
   pub exactly : known.entries ≡ select frame.spec (entries_after number frame.writes)
 
+-- a `fault` line after the latest `opened` line
+pub record IsFaultAfter (frame : Frame) (known : Known) (why : List ℕ) : Type 0 where
+  pub opening : ReportedOpening
+  pub latest : known.opening ≡ Some opening
+  pub full : IsStageFull known.entries opening (length frame.writes) why
+
 -- no part shows entries or sets a clock
 abbrev pub LineIsRightOf : ℕ → Frame → Known → ReportLine → Type 0
 LineIsRightOf number frame known (Stored name stored) = (name ≡ frame.name) × IsRightOf number frame known stored
@@ -159,7 +188,7 @@ LineIsRightOf number frame known (Refused name persists code) =
     (name ≡ frame.name) × (code ≡ E_SYNC_REFRESH_REQUIRED) × IsUnserved frame.reload number frame.writes known.cookie
 LineIsRightOf number frame known (Sent name octets) = (name ≡ frame.name) × IsSentOf number frame known octets
 LineIsRightOf number frame known (Ended name code) = code ≡ pos BUSY
-LineIsRightOf number frame known (Faulted name why) = ⊥
+LineIsRightOf number frame known (Faulted name why) = (name ≡ frame.name) × IsFaultAfter frame known why
 LineIsRightOf number frame known (Settled name n) = (name ≡ frame.name) × IsSettledOf number frame known n
 LineIsRightOf number frame known (Clocked time) = ⊥
 LineIsRightOf number frame known (Shown name entries) = ⊥

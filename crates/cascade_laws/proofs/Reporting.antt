@@ -10,7 +10,7 @@ use Rattle.cascade_nodes.specs.declared.node.ProviderNode.{ProviderNode}
 use Rattle.cascade_nodes.specs.declared.node.ConsumerNode.{ConsumerNode}
 use Rattle.cascade_report.specs.declared.notes.Origin.{Origin}
 use Rattle.cascade_world.specs.Exchange.{ExchangeOutcome, agreement_of}
-use Rattle.cascade_laws.specs.Headline.{AreWritesOf, IsConsumer, known_of, reported_origin, IsOrigin, IsOfRoot, IsUnserved, IsAskedFor, IsOpenedAt, FollowsWrites, IsPrefixSelected, OfCookie, IsOfStream, IsSettled, IsGiven, IsShown, ReportsRight, EachReportsRight}
+use Rattle.cascade_laws.specs.Headline.{AreWritesOf, IsConsumer, known_of, reported_origin, IsOrigin, IsOfRoot, IsUnserved, IsAskedFor, IsOpenedAt, FollowsWrites, IsPrefixSelected, OfCookie, IsOfStream, IsFaultOf, IsSettled, IsGiven, IsShown, ReportsRight, EachReportsRight}
 use Rattle.cascade_laws.specs.Run.{AreHeld}
 use Rattle.cascade_script.specs.Orders.{Order}
 use Rattle.cascade_world.specs.Origins.{origin_of}
@@ -20,7 +20,7 @@ use Rattle.cascade_world.specs.Trace.{name_in}
 use Rattle.cascade_world.specs.World.{WorldState, lineage_of}
 use Rattle.cascade_exchange.proofs.Exchanging.{EachOwn}
 use Rattle.cascade_exchange.proofs.Silence.{IsSilent, AreSilent, SilentIn}
-use Rattle.cascade_laws.proofs.Feeding.{Frame, frame_of, IsRightOf, IsSentOf, IsSettledOf, LineIsRightOf, LinesAreRightOf}
+use Rattle.cascade_laws.proofs.Feeding.{Frame, frame_of, IsRightOf, IsSentOf, IsSettledOf, IsFaultAfter, LineIsRightOf, LinesAreRightOf}
 use Rattle.cascade_world.proofs.Finding.{provider_nodes_by, consumer_nodes_by, consumer_node_name}
 use Rattle.cascade_laws.proofs.Rooting.{origin_rooted, origin_is, accepted_at, of_root_some}
 use Rattle.cascade_laws.proofs.Saying.{IsLeft, known_next, left_by_one, left_line, stored_still, commits_still}
@@ -181,6 +181,16 @@ sent_right before said number frame name octets follows serves same is =
       next = is.next;
     })
 
+fault_right : (before : List Order) (said : List ReportLine) (number : ℕ) (frame : Frame) (name fault : List ℕ) → FollowsIn before frame → Serves before said number frame → name ≡ frame.name
+    → IsFaultAfter frame (known_of frame.name said) fault → IsFaultOf before said name fault
+fault_right before said number frame name fault follows serves same is =
+    subst (λ c. IsFaultOf before said c fault) (sym same) (record {
+      follows = follows_writes before said number frame follows serves;
+      opening = is.opening;
+      latest = is.latest;
+      full = is.full;
+    })
+
 settled_right : (before : List Order) (said : List ReportLine) (number : ℕ) (frame : Frame) (name : List ℕ) (n : ℕ) → FollowsIn before frame → Serves before said number frame → name ≡ frame.name
     → IsSettledOf number frame (known_of frame.name said) n → IsSettled before said name n
 settled_right before said number frame name n follows serves same is =
@@ -200,7 +210,7 @@ line_right before order said number frame (Taken name) given follows serves is =
 line_right before order said number frame (Stored name stored) given follows serves is =
     subst (λ c. IsPrefixSelected before said c stored) (sym is.0) (stored_right before said number frame stored follows serves is.1)
 line_right before order said number frame (Ended name code) given follows serves is = is
-line_right before order said number frame (Faulted name fault) given follows serves is = is
+line_right before order said number frame (Faulted name fault) given follows serves is = fault_right before said number frame name fault follows serves is.0 is.1
 line_right before order said number frame (Cut name) given follows serves is = tt
 line_right before order said number frame (Nothing name) given follows serves is = tt
 line_right before order said number frame (Settled name n) given follows serves is = settled_right before said number frame name n follows serves is.0 is.1

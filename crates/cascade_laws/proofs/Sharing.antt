@@ -1,5 +1,5 @@
 -- What the consumers of a provider are fed while the search of another one changes.
-use Rattle.std.proofs.Common.{◌≡◌, ◌≢◌, ℕ, Some, None, List, ap, sym, ◌∙◌, inl, inr}
+use Rattle.std.proofs.Common.{◌≡◌, ◌≢◌, ℕ, Some, None, List, ◌++◌, ap, sym, ◌∙◌, inl, inr}
 use Rattle.std.specs.Prelude.{◌⊎◌}
 use Rattle.std.specs.BTreeMap.{insert_entry}
 use Rattle.std.specs.Ordering.{nat_cmp}
@@ -14,14 +14,14 @@ use Rattle.cascade_nodes.proofs.Fed.{IsAtRest, OwnStays, pending-other, own_sear
 use Rattle.cascade_world.specs.Exchange.{agreement_of}
 use Rattle.cascade_laws.specs.Headline.{ReportedOpening, Known}
 use Rattle.cascade_world.specs.Origins.{Lineage}
-use Rattle.cascade_laws.proofs.Feeding.{GoesOn, IsGoing, IsFed, KeepsOthers}
+use Rattle.cascade_laws.proofs.Feeding.{far_of, GoesOn, IsGoing, IsFed, KeepsOthers}
 
 going-other : (number : ℕ) (p : ProviderState) (later : Searches) (g : ConsumerNode) (opening : ReportedOpening) (entries : List Entry) → OwnStays p.searches later g.search
     → GoesOn number p g opening entries → GoesOn number (with_searches p later) g opening entries
 going-other number p later g opening entries stays goes = record {
   session = goes.session;
   link = goes.link;
-  search = pending-other p.directory p.searches later g.consumer.spec opening.persists goes.session.cut g.search goes.session.pending stays goes.search;
+  search = pending-other p.directory p.searches later g.consumer.spec opening.persists goes.session.cut (far_of goes.session.start opening goes.session.count (goes.session.taken ++ goes.session.linked)) g.search goes.session.pending stays goes.search;
   place = goes.place;
 }
 
@@ -46,7 +46,9 @@ fed_search number p g known at is fed = by fed.state
   where
     by : IsAtRest g ⊎ IsGoing number p g known → (s : SearchState) × (search_at p.searches at ≡ Some s)
     by (inl rest) = let none = rest.search in let never : ⊥ = cc in absurd never
-    by (inr going) = let goes = going.goes in own_search p.directory p.searches g.consumer.spec going.opening.persists goes.session.cut g.search at goes.session.pending is goes.search
+    by (inr going) =
+        let goes = going.goes in
+        own_search p.directory p.searches g.consumer.spec going.opening.persists goes.session.cut (far_of goes.session.start going.opening goes.session.count (goes.session.taken ++ goes.session.linked)) g.search at goes.session.pending is goes.search
 
 -- ---- what a change of one search keeps
 

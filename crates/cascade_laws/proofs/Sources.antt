@@ -9,6 +9,7 @@ use Rattle.ldap_constants.specs.declared.result_codes.TheConstants.{ADMIN_LIMIT_
 use Rattle.csn_cookie.specs.Csn.{IsCsn, start, is_before}
 use Rattle.csn_cookie.specs.CsnMaker.{greatest_count}
 use Rattle.dn_names.specs.Names.{TypeAndValue, is_at_or_below}
+use Rattle.dn_names.proofs.KeyTexts.{not_empty}
 use Rattle.directory_writes.specs.Formed.{IsWellFormed}
 use Rattle.directory_laws.specs.Accepted.{IsAcceptedFromClient, WereAccepted}
 use Rattle.directory_laws.proofs.Histories.{WereAccepted-push, sent-state_of}
@@ -39,32 +40,35 @@ use Rattle.entry_tree.specs.declared.op.Op.TheVariants.{Commit}
 use Rattle.entry_tree.specs.declared.op.Write.{Write}
 use Rattle.sync_consumer.specs.Taking.{ConsumerState}
 use Rattle.sync_model.specs.Incremental.{number_of}
-use Rattle.sync_model.specs.Law.{IsWithinLimits}
+use Rattle.sync_model.specs.Law.{IsCut, IsWithinLimits, is_nil}
 use Rattle.sync_model.specs.Message.{SyncMessage}
-use Rattle.sync_model.specs.Stream.{SyncOperation, group, later}
-use Rattle.sync_model.proofs.NextMessages.{HasNext}
+use Rattle.sync_model.specs.Stream.{SyncOperation, last_mark, refresh, group, later}
+use Rattle.sync_model.proofs.NextMessages.{HasNext, prefix_some, none_later}
+use Rattle.sync_model.proofs.Refresh.{marks-last}
 use Rattle.sync_wire.proofs.Servable.{CanBeServed}
 use Rattle.sync_provider.specs.Committing.{fault_of, commit_refusal}
-use Rattle.sync_provider.specs.Law.{Delivers}
 use Rattle.sync_provider.specs.Machine.{ProviderState, each_search_notified, after_judged, judged_by, after_commit, log_limited, queue_limited}
-use Rattle.sync_provider.specs.Queueing.{group_of, search_notified}
+use Rattle.sync_provider.specs.HandingOut.{search_at}
+use Rattle.sync_provider.specs.Queueing.{group_of, overflowed, search_notified}
 use Rattle.sync_provider.specs.Search.{SearchState, session_of, busy_end, pending}
 use Rattle.sync_provider.specs.declared.provider.Kind.{Kind}
 use Rattle.sync_provider.specs.declared.provider.Kind.TheVariants.{Root, Replica}
 use Rattle.sync_provider.specs.declared.writing.CommitFault.{CommitFault}
 use Rattle.sync_provider.specs.declared.writing.CommitFault.TheVariants as fault
 use Rattle.sync_provider.proofs.Commits.{or_none, unopposed}
-use Rattle.sync_provider.proofs.Decided.{IsDecided, delivers_longer, pending_decided, search_notified_decided, search_notified_delivers, search_notified_ends, stream_more}
+use Rattle.sync_provider.proofs.Settled.{notified_over, notified_open, left_then, settled_pending, stream_more}
 use Rattle.sync_provider.proofs.Growing.{search_notified_at}
-use Rattle.sync_provider.proofs.SearchNotified.{pending_over, IsSame, search_notified_same}
-use Rattle.sync_provider.proofs.Longer.{new, stream_same, place_longer, place_grows}
-use Rattle.sync_provider.proofs.Whereabouts.{IsWhere}
+use Rattle.sync_provider.proofs.SearchNotified.{pending_over, IsSame, progress_then, search_notified_same}
+use Rattle.sync_provider.proofs.Longer.{new, cut_same, stream_same, place_longer, place_grows}
+use Rattle.sync_provider.proofs.Streams.{HasHanded, StandsAt, search_notified_at_place}
+use Rattle.sync_provider.proofs.Walking.{SendsRefresh, over_left, handed_of, walking_refresh, walking_some}
+use Rattle.sync_provider.proofs.Whereabouts.{InRefresh, AtWhole, InGroup, IsWhere}
 use Rattle.cascade_nodes.specs.declared.node.ConsumerNode.{ConsumerNode}
-use Rattle.cascade_nodes.proofs.Fed.{waits, IsPending, HasPending, IsAtRest, pending-logged}
+use Rattle.cascade_nodes.proofs.Fed.{waits, SoFar, IsPending, HasPending, IsAtRest, pending-limited}
 use Rattle.cascade_world.specs.Cookies.{held_cookie}
 use Rattle.cascade_world.specs.Directory.{logged_directory, wrote_read}
-use Rattle.cascade_laws.specs.Headline.{ReportedOpening, Known, BeginsFrom, session_over, stream_over}
-use Rattle.cascade_laws.proofs.Feeding.{IsSource, GoesOn, IsGoing, IsFed, RestIsFed, RestsAreFed, FreshIsSource, KeepsAll, WritesAreKept, LimitsAreKept, QueuesAreKept, IsCommitted, CommitIs, CommitsAreKept}
+use Rattle.cascade_laws.specs.Headline.{ReportedOpening, Known, BeginsFrom, stream_over}
+use Rattle.cascade_laws.proofs.Feeding.{IsSource, IsCutShort, Feeds, far_of, GoesOn, IsGoing, IsFed, RestIsFed, RestsAreFed, FreshIsSource, KeepsAll, WritesAreKept, LimitsAreKept, QueuesAreKept, IsCommitted, CommitIs, CommitsAreKept}
 
 abbrev Name : Type 0
 Name = List (List TypeAndValue)
@@ -146,6 +150,20 @@ source-push number suffix p w source next = record {
 
 -- ---- a search that goes on
 
+-- what is cut short of some messages is so of more
+cut_longer : (persists : Bool) (messages ahead more : List SyncMessage) → IsCutShort persists messages ahead → IsCutShort persists messages (ahead ++ more)
+cut_longer persists messages ahead more cut = record {
+  prefix = cut.prefix;
+  left = cut.left ++ more;
+  split = sym (append_assoc cut.prefix cut.left more) ∙ ap (λ ms. ms ++ more) cut.split;
+  is = cut.is;
+  some = λ ends. prefix_some cut.left more (cut.some ends);
+}
+
+feeds_longer : (persists cut : Bool) (messages ahead more : List SyncMessage) → cut ≡ true → Feeds persists cut messages ahead → Feeds persists cut messages (ahead ++ more)
+feeds_longer persists cut messages ahead more on feeds =
+    subst (λ c. Feeds persists c messages (ahead ++ more)) (sym on) (cut_longer persists messages ahead more (subst (λ c. Feeds persists c messages ahead) on feeds))
+
 module _ (number : ℕ) (suffix : Name) (p : ProviderState) (w : Write) (source : IsSource number suffix p) (g : ConsumerNode) (opening : ReportedOpening) (entries : List Entry) (goes : GoesOn number p g opening entries) where
   abbrev writes : List Write
   writes = p.directory.writes
@@ -156,157 +174,332 @@ module _ (number : ℕ) (suffix : Name) (p : ProviderState) (w : Write) (source 
   abbrev longer : SyncOperation
   longer = new number opening.persists g.consumer.spec writes w
 
+  -- the number of writes at the last piece
+  abbrev last : ℕ
+  last = last_mark opening.writes goes.session.pieces
+
   grown : length (writes ++ w ∷ []) ≡ length writes + 1
   grown = length-append writes (w ∷ [])
 
-  within : opening.writes + goes.session.count ≤ length writes
+  opened_low : opening.writes ≤ last
+  opened_low = marks-last goes.session.pieces opening.writes goes.session.sliced.rises
+
+  opened_within : opening.writes ≤ length writes
+  opened_within = omega (arith, opened_low, goes.session.upto)
+
+  within : last + goes.session.count ≤ length writes
   within = omega (arith, goes.session.upto)
 
   from_now : BeginsFrom number (take opening.writes (writes ++ w ∷ [])) opening.cookie (number_of goes.session.start)
-  from_now =
-      subst (λ ws. BeginsFrom number ws opening.cookie (number_of goes.session.start)) (sym (prefix-push writes w opening.writes (omega (arith, goes.session.upto)))) goes.session.from
+  from_now = subst (λ ws. BeginsFrom number ws opening.cookie (number_of goes.session.start)) (sym (prefix-push writes w opening.writes opened_within)) goes.session.from
 
-  whole_now : goes.session.taken ++ goes.session.ahead ≡ stream_over number g.consumer.spec (writes ++ w ∷ []) opening goes.session.start goes.session.count
-  whole_now = goes.session.whole ∙ sym (stream_same number opening.persists g.consumer.spec writes w goes.session.start opening.writes goes.session.count within)
+  sliced_now : IsCut longer goes.session.start opening.writes goes.session.pieces
+  sliced_now = cut_same number opening.persists g.consumer.spec writes w goes.session.start opening.writes goes.session.pieces opened_within goes.session.sliced
 
-  place_now : IsWhere longer goes.session.start opening.writes goes.session.count entries g.consumer.copy goes.session.taken goes.session.ahead
-  place_now = place_longer number opening.persists g.consumer.spec writes w goes.session.start opening.writes goes.session.count within entries g.consumer.copy goes.session.taken goes.session.ahead goes.place
+  whole_now : goes.session.taken ++ goes.session.ahead ≡ stream_over number g.consumer.spec (writes ++ w ∷ []) opening goes.session.start goes.session.pieces goes.session.count
+  whole_now =
+      goes.session.whole
+      ∙ sym (stream_same number opening.persists g.consumer.spec writes w goes.session.start opening.writes goes.session.pieces goes.session.count opened_within goes.session.sliced.rises within)
 
-  -- ---- what is in the link and what is pending, after the write
+  place_now : IsWhere longer goes.session.start opening.writes goes.session.pieces goes.session.count entries g.consumer.copy goes.session.taken goes.session.ahead
+  place_now =
+      place_longer number opening.persists g.consumer.spec writes w goes.session.start opening.writes goes.session.pieces goes.session.sliced.rises goes.session.count within entries g.consumer.copy goes.session.taken goes.session.ahead goes.place
+
+  late_now : (cut : Bool) → cut ≡ true → opening.writes < length (writes ++ w ∷ [])
+  late_now cut on = omega (arith, opened_within, grown)
+
+  -- ---- with the same pieces
 
   -- what the write sends
   abbrev next : List SyncMessage
-  next = cond opening.persists (group longer (opening.writes + goes.session.count)) []
+  next = cond opening.persists (group longer (last + goes.session.count)) []
 
-  record IsSearchNotified : Type 0 where
-    cut : Bool
-    lasts : cut ≡ true → opening.persists ≡ true
-    pending : List SyncMessage
-    left : Delivers cut (goes.session.linked ++ pending) (goes.session.ahead ++ next)
-    search : HasPending after.directory after.searches g.consumer.spec opening.persists cut g.search pending
+  abbrev handed : List SyncMessage
+  handed = goes.session.taken ++ goes.session.linked
+
+  abbrev far : SoFar
+  far = far_of goes.session.start opening (suc goes.session.count) handed
+
+  goes_further : (cut : Bool) (pending' : List SyncMessage) → Feeds opening.persists cut (goes.session.linked ++ pending') (goes.session.ahead ++ next)
+      → HasPending after.directory after.searches g.consumer.spec opening.persists cut far g.search pending' → GoesOn number after g opening entries
+  goes_further cut pending' left search = record {
+    session = record {
+      start = goes.session.start;
+      from = from_now;
+      pieces = goes.session.pieces;
+      sliced = sliced_now;
+      count = suc goes.session.count;
+      upto = omega (arith, goes.session.upto, grown);
+      taken = goes.session.taken;
+      ahead = goes.session.ahead ++ next;
+      whole =
+          sym (append_assoc goes.session.taken goes.session.ahead next)
+          ∙ ap (λ ms. ms ++ next) whole_now
+          ∙ sym (stream_more longer goes.session.start opening.writes goes.session.pieces goes.session.count);
+      cut = cut;
+      late = late_now cut;
+      linked = goes.session.linked;
+      pending = pending';
+      left = left;
+      reported = goes.session.reported;
+    };
+    link = goes.link;
+    search = search;
+    place = place_grows longer goes.session.start opening.writes goes.session.pieces goes.session.count entries g.consumer.copy goes.session.taken goes.session.ahead place_now;
+  }
 
   -- a search that is over at the provider, whose last messages are in the link
-  closed_search_notified : g.search ≡ None → waits opening.persists goes.session.cut ≡ false → HasPending p.directory p.searches g.consumer.spec opening.persists goes.session.cut None goes.session.pending → IsSearchNotified
-  closed_search_notified own ends has = record {
-    cut = goes.session.cut;
-    lasts = goes.session.lasts;
-    pending = goes.session.pending;
-    left = by opening.persists goes.session.cut refl ends;
-    search = subst (λ o. HasPending after.directory after.searches g.consumer.spec opening.persists goes.session.cut o goes.session.pending) (sym own) has;
-  }
+  closed_goes : g.search ≡ None
+      → HasPending p.directory p.searches g.consumer.spec opening.persists goes.session.cut (far_of goes.session.start opening goes.session.count handed) None goes.session.pending → GoesOn number after g opening entries
+  closed_goes own has =
+      goes_further goes.session.cut goes.session.pending (by opening.persists goes.session.cut refl has.1)
+      (subst (λ o. HasPending after.directory after.searches g.consumer.spec opening.persists goes.session.cut far o goes.session.pending) (sym own) has)
     where
       by : (persists cut : Bool) → goes.session.cut ≡ cut → waits persists cut ≡ false
-          → Delivers goes.session.cut (goes.session.linked ++ goes.session.pending) (goes.session.ahead ++ cond persists (group longer (opening.writes + goes.session.count)) [])
-      by false cut is ends = subst (Delivers goes.session.cut (goes.session.linked ++ goes.session.pending)) (sym (append-nil goes.session.ahead)) goes.session.left
-      by true true is ends = delivers_longer goes.session.cut (goes.session.linked ++ goes.session.pending) goes.session.ahead (group longer (opening.writes + goes.session.count)) is goes.session.left
+          → Feeds opening.persists goes.session.cut (goes.session.linked ++ goes.session.pending) (goes.session.ahead ++ cond persists (group longer (last + goes.session.count)) [])
+      by false cut is ends = subst (Feeds opening.persists goes.session.cut (goes.session.linked ++ goes.session.pending)) (sym (append-nil goes.session.ahead)) goes.session.left
+      by true true is ends =
+          feeds_longer opening.persists goes.session.cut (goes.session.linked ++ goes.session.pending) goes.session.ahead (group longer (last + goes.session.count)) is goes.session.left
       by true false is bad = absurd (true≢false bad)
 
-  -- a search that is open
-  module _ (at : ℕ) (own : g.search ≡ Some at) (has : IsPending p.directory p.searches g.consumer.spec opening.persists goes.session.cut at goes.session.pending) where
+  -- ---- a search that is open
+
+  module _ (at : ℕ) (own : g.search ≡ Some at)
+      (has : IsPending p.directory p.searches g.consumer.spec opening.persists goes.session.cut (far_of goes.session.start opening goes.session.count handed) at goes.session.pending) where
     abbrev now : SearchState
     now = search_notified p.queue_limit p.directory w has.search
 
     is_same : IsSame has.search now
     is_same = search_notified_same p.queue_limit p.directory w has.search
 
+    stands : StandsAt after.directory now handed
+    stands = search_notified_at_place p.queue_limit p.directory w has.search handed has.stands
+
+    found_now : search_at after.searches at ≡ Some now
+    found_now = search_notified_at p.queue_limit p.directory w p.searches at has.search has.found
+
+    sids : p.directory.sid ≡ number
+    sids = ap (λ (d : DirectoryState). d.sid) source.directory
+
+    histories : p.directory.history ≡ number
+    histories = ap (λ (d : DirectoryState). d.history) source.directory
+
+    -- as the directory has it
+    longer_is : session_of now.persists p.directory.sid p.directory.history now.spec (writes ++ w ∷ []) ≡ longer
+    longer_is = λ i. session_of ((is_same.persists ∙ has.persists) i) (sids i) (histories i) ((is_same.spec ∙ has.spec) i) (writes ++ w ∷ [])
+
     group_is : group_of p.directory has.search w ≡ group longer (length writes)
-    group_is =
-        (λ i. group (session_of (has.persists i) p.directory.sid p.directory.history (has.spec i) (writes ++ w ∷ [])) (length writes))
-        ∙ (λ i. group (session_of opening.persists (ap (λ (d : DirectoryState). d.sid) source.directory i) (ap (λ (d : DirectoryState). d.history) source.directory i) g.consumer.spec (writes ++ w ∷ [])) (length writes))
+    group_is = λ i. group (session_of (has.persists i) (sids i) (histories i) (has.spec i) (writes ++ w ∷ [])) (length writes)
 
     sent_is : cond has.search.persists (group_of p.directory has.search w) [] ≡ next
     sent_is = λ i. cond (has.persists i) ((group_is ∙ ap (group longer) (sym goes.session.upto)) i) []
 
-    delivers_now : Delivers now.over (goes.session.linked ++ pending after.directory now) (goes.session.ahead ++ next)
-    delivers_now =
-        subst (λ sent. Delivers now.over (goes.session.linked ++ pending after.directory now) (goes.session.ahead ++ sent)) sent_is
-        (search_notified_delivers has.search has.search.accepted has.decided p.queue_limit p.directory w goes.session.linked goes.session.ahead
-        (subst (λ o. Delivers o (goes.session.linked ++ pending p.directory has.search) goes.session.ahead) (sym has.over)
-        (subst (λ ms. Delivers goes.session.cut (goes.session.linked ++ ms) goes.session.ahead) (sym has.same) goes.session.left)))
+    -- it is one with these messages pending
+    open_now : (cut : Bool) (then : SoFar) (pending' : List SyncMessage) → now.start ≡ then.start → now.accepted ≡ then.opened → now.over ≡ cut → pending after.directory now ≡ pending' → StandsAt after.directory now then.handed
+        → (is_nil now.progress.left ≡ false → then.later ≡ 0) → (waits opening.persists cut ≡ false → HasNext pending')
+        → HasPending after.directory after.searches g.consumer.spec opening.persists cut then g.search pending'
+    open_now cut then pending' starts accepted over same stands' walks some =
+        subst (λ o. HasPending after.directory after.searches g.consumer.spec opening.persists cut then o pending') (sym own) (record {
+          search = now;
+          found = found_now;
+          id = is_same.id ∙ has.id;
+          spec = is_same.spec ∙ has.spec;
+          persists = is_same.persists ∙ has.persists;
+          start = starts;
+          accepted = accepted;
+          over = over;
+          same = same;
+          stands = stands';
+          walks = walks;
+          some = some;
+        })
 
-    -- one that ends with its refresh is as before
-    still : opening.persists ≡ false → now ≡ has.search
-    still ends = search_notified_ends has.search has.search.accepted has.decided p.queue_limit p.directory w (has.persists ∙ ends)
+    -- with the same pieces nothing is left of its walk
+    open_further : (cut : Bool) (pending' : List SyncMessage) → now.over ≡ cut → pending after.directory now ≡ pending' → now.progress.left ≡ [] → (waits opening.persists cut ≡ false → HasNext pending')
+        → Feeds opening.persists cut (goes.session.linked ++ pending') (goes.session.ahead ++ next) → GoesOn number after g opening entries
+    open_further cut pending' over same none some left =
+        goes_further cut pending' left
+        (open_now cut far pending' (is_same.start ∙ has.start) (is_same.accepted ∙ has.accepted) over same stands (λ left'. absurd (true≢false (sym (ap is_nil none) ∙ left'))) some)
 
-    -- what was pending of it is so on the directory after the write
-    waiting : pending after.directory has.search ≡ goes.session.pending
-    waiting =
-        pending_decided has.search has.search.accepted has.decided after.directory
-        ∙ sym (pending_decided has.search has.search.accepted has.decided p.directory)
-        ∙ has.same
+    -- a write was too much for it before
+    module _ (on : has.search.over ≡ true) where
+      still : now ≡ has.search
+      still = notified_over p.queue_limit p.directory w has.search on
 
-    lasts_now : now.over ≡ true → opening.persists ≡ true
-    lasts_now on = by opening.persists refl
+      over_goes : GoesOn number after g opening entries
+      over_goes =
+          open_further goes.session.cut goes.session.pending (ap (λ (s : SearchState). s.over) still ∙ has.over)
+          (ap (pending after.directory) still ∙ pending_over after.directory has.search on ∙ sym (pending_over p.directory has.search on) ∙ has.same)
+          (ap (λ (s : SearchState). s.progress.left) still ∙ over_left p.directory has.search handed on has.stands) has.some
+          (feeds_longer opening.persists goes.session.cut (goes.session.linked ++ goes.session.pending) goes.session.ahead next (sym has.over ∙ on) goes.session.left)
+
+    -- or none was
+    module _ (off : has.search.over ≡ false) where
+      left_is : goes.session.linked ++ goes.session.pending ≡ goes.session.ahead
+      left_is = subst (λ c. Feeds opening.persists c (goes.session.linked ++ goes.session.pending) goes.session.ahead) (sym has.over ∙ off) goes.session.left
+
+      more_left : goes.session.linked ++ (goes.session.pending ++ next) ≡ goes.session.ahead ++ next
+      more_left = sym (append_assoc goes.session.linked goes.session.pending next) ∙ ap (λ ms. ms ++ next) left_is
+
+      some_pending : opening.persists ≡ false → HasNext goes.session.pending
+      some_pending ends = has.some (ap (λ b. waits b goes.session.cut) ends)
+
+      -- this one is too much
+      full_goes : now ≡ overflowed has.search → GoesOn number after g opening entries
+      full_goes full =
+          open_further true (busy_end ∷ []) (ap (λ (s : SearchState). s.over) full) (ap (pending after.directory) full) (ap (λ (s : SearchState). s.progress.left) full)
+          (λ none. record { next = busy_end; later = []; same = refl })
+          (record { prefix = goes.session.linked; left = goes.session.pending ++ next; split = more_left; is = refl; some = λ ends. prefix_some goes.session.pending next (some_pending ends) })
+
+      -- or what it sends or changes is kept
+      module _ (kept : now ≡ record has.search { progress = progress_then p.queue_limit p.directory w has.search }) where
+        off_now : now.over ≡ false
+        off_now = ap (λ (s : SearchState). s.over) kept ∙ off
+
+        left_now : now.progress.left ≡ has.search.progress.left
+        left_now = ap (λ (s : SearchState). s.progress.left) kept ∙ left_then p.queue_limit p.directory w has.search
+
+        -- ---- nothing of its walk is left to decide
+
+        pending_now : has.search.progress.left ≡ [] → pending after.directory now ≡ goes.session.pending ++ next
+        pending_now none =
+            ap (pending after.directory) kept
+            ∙ settled_pending p.queue_limit p.directory w has.search off none
+            ∙ (λ i. has.same i ++ sent_is i)
+
+        settled_some : waits opening.persists false ≡ false → HasNext (goes.session.pending ++ next)
+        settled_some none = by opening.persists refl
+          where
+            by : (persists : Bool) → opening.persists ≡ persists → HasNext (goes.session.pending ++ next)
+            by true mode = absurd (true≢false (sym (ap (λ b. waits b false) mode) ∙ none))
+            by false mode = prefix_some goes.session.pending next (some_pending mode)
+
+        settled_goes : has.search.progress.left ≡ [] → GoesOn number after g opening entries
+        settled_goes none = open_further false (goes.session.pending ++ next) off_now (pending_now none) (left_now ∙ none) settled_some more_left
+
+        -- ---- or identities are, and the last piece comes after this write
+
+        module _ (some : is_nil has.search.progress.left ≡ false) where
+          some_left : is_nil now.progress.left ≡ false
+          some_left = ap is_nil left_now ∙ some
+
+          has_now : HasHanded after.directory now handed
+          has_now = handed_of after.directory now handed off_now stands
+
+          abbrev coming : List SyncMessage
+          coming = pending after.directory now
+
+          sends : SendsRefresh longer goes.session.start opening.writes (length (writes ++ w ∷ [])) (handed ++ coming)
+          sends =
+              subst (λ n. SendsRefresh longer goes.session.start n (length (writes ++ w ∷ [])) (handed ++ coming)) (is_same.accepted ∙ has.accepted)
+              (subst (λ s. SendsRefresh longer s now.accepted (length (writes ++ w ∷ [])) (handed ++ coming)) (is_same.start ∙ has.start)
+              (subst (λ (o : SyncOperation). SendsRefresh o now.start now.accepted (length (writes ++ w ∷ [])) (handed ++ coming)) longer_is
+              (walking_refresh after.directory now handed off_now has_now some_left)))
+
+          abbrev refreshed : List SyncMessage
+          refreshed = refresh longer goes.session.start opening.writes sends.pieces
+
+          refreshed_is : goes.session.taken ++ (goes.session.linked ++ coming) ≡ refreshed
+          refreshed_is = sym (append_assoc goes.session.taken goes.session.linked coming) ∙ sends.whole
+
+          coming_some : HasNext coming
+          coming_some = walking_some after.directory now handed off_now has_now some_left
+
+          left_some : HasNext (goes.session.linked ++ coming)
+          left_some = by goes.session.linked
+            where
+              by : (linked : List SyncMessage) → HasNext (linked ++ coming)
+              by [] = coming_some
+              by (m ∷ linked) = record { next = m; later = linked ++ coming; same = refl }
+
+          -- no write came after its last piece, so that the copy is in the refresh
+          none_since : goes.session.count ≡ 0
+          none_since = has.walks some
+
+          was_some : HasNext goes.session.pending
+          was_some = subst HasNext has.same (walking_some p.directory has.search handed off (handed_of p.directory has.search handed off has.stands) some)
+
+          whole_none : AtWhole longer last goes.session.count entries g.consumer.copy goes.session.ahead → ⊥
+          whole_none at =
+              let none : at.more ≡ 0 = omega (arith, at.from, at.sum, none_since) in
+              not_empty goes.session.linked was_some.later was_some.next
+              (ap (λ ms. goes.session.linked ++ ms) (sym was_some.same) ∙ left_is ∙ at.beyond ∙ ap (later longer at.number) none)
+
+          group_none : InGroup longer last goes.session.count entries g.consumer.copy goes.session.ahead → ⊥
+          group_none at = omega (arith, at.from, at.sum, none_since)
+
+          in_refresh : InRefresh longer goes.session.start opening.writes sends.pieces 0 entries g.consumer.copy goes.session.taken (goes.session.linked ++ coming)
+          in_refresh = by place_now
+            where
+              past : AtWhole longer last goes.session.count entries g.consumer.copy goes.session.ahead ⊎ InGroup longer last goes.session.count entries g.consumer.copy goes.session.ahead → ⊥
+              past (inl at) = whole_none at
+              past (inr at) = group_none at
+
+              by : IsWhere longer goes.session.start opening.writes goes.session.pieces goes.session.count entries g.consumer.copy goes.session.taken goes.session.ahead
+                  → InRefresh longer goes.session.start opening.writes sends.pieces 0 entries g.consumer.copy goes.session.taken (goes.session.linked ++ coming)
+              by (inl is) = record {
+                begins = is.begins;
+                rest = goes.session.linked ++ coming;
+                some = left_some;
+                whole = refreshed_is;
+                beyond = sym (append-nil (goes.session.linked ++ coming)) ∙ ap (λ ms. (goes.session.linked ++ coming) ++ ms) (sym (none_later opening.persists));
+                copy = is.copy;
+                met = is.met;
+              }
+              by (inr is) = absurd (past is.1)
+
+          walking_goes : GoesOn number after g opening entries
+          walking_goes = record {
+            session = record {
+              start = goes.session.start;
+              from = from_now;
+              pieces = sends.pieces;
+              sliced = sends.cut;
+              count = 0;
+              upto = omega (arith, sends.last);
+              taken = goes.session.taken;
+              ahead = goes.session.linked ++ coming;
+              whole = refreshed_is ∙ sym (append-nil refreshed) ∙ ap (λ ms. refreshed ++ ms) (sym (none_later opening.persists));
+              cut = false;
+              late = late_now false;
+              linked = goes.session.linked;
+              pending = coming;
+              left = refl;
+              reported = goes.session.reported;
+            };
+            link = goes.link;
+            search =
+                open_now false (far_of goes.session.start opening 0 handed) coming (is_same.start ∙ has.start) (is_same.accepted ∙ has.accepted) off_now refl stands (λ left. refl)
+                (λ none. coming_some);
+            place = inl in_refresh;
+          }
+
+        kept_goes : GoesOn number after g opening entries
+        kept_goes = by has.search.progress.left refl
+          where
+            by : (us : List ℕ) → has.search.progress.left ≡ us → GoesOn number after g opening entries
+            by [] none = settled_goes none
+            by (u ∷ us) is = walking_goes (ap is_nil is)
+
+    open_goes : GoesOn number after g opening entries
+    open_goes = by has.search.over refl
       where
-        by : (persists : Bool) → opening.persists ≡ persists → opening.persists ≡ true
-        by true is = is
-        by false is = goes.session.lasts (sym (ap (λ (s : SearchState). s.over) (still is) ∙ has.over) ∙ on)
+        noted : has.search.over ≡ false → (now ≡ overflowed has.search) ⊎ (now ≡ record has.search { progress = progress_then p.queue_limit p.directory w has.search }) → GoesOn number after g opening entries
+        noted off (inl full) = full_goes off full
+        noted off (inr kept) = kept_goes off kept
 
-    some_now : waits opening.persists now.over ≡ false → HasNext (pending after.directory now)
-    some_now none = by opening.persists refl now.over refl
-      where
-        by : (persists : Bool) → opening.persists ≡ persists → (over : Bool) → now.over ≡ over → HasNext (pending after.directory now)
-        by true mode true on = record { next = busy_end; later = []; same = pending_over after.directory now on }
-        by true mode false off = absurd (true≢false (sym (λ i. waits (mode i) (off i)) ∙ none))
-        by false mode over is = subst HasNext (sym (ap (pending after.directory) (still mode) ∙ waiting)) (has.some (ap (λ b. waits b goes.session.cut) mode))
+        by : (over : Bool) → has.search.over ≡ over → GoesOn number after g opening entries
+        by true on = over_goes on
+        by false off = noted off (notified_open p.queue_limit p.directory w has.search off)
 
-    decided_now : IsDecided now.accepted now.progress
-    decided_now =
-        subst (λ count. IsDecided count now.progress) (sym is_same.accepted)
-        (search_notified_decided p.queue_limit p.directory w has.search has.search.accepted has.decided)
-
-    open_search_notified : IsSearchNotified
-    open_search_notified = record {
-      cut = now.over;
-      lasts = lasts_now;
-      pending = pending after.directory now;
-      left = delivers_now;
-      search =
-          subst (λ o. HasPending after.directory after.searches g.consumer.spec opening.persists now.over o (pending after.directory now)) (sym own) (record {
-            search = now;
-            found = search_notified_at p.queue_limit p.directory w p.searches at has.search has.found;
-            id = is_same.id ∙ has.id;
-            spec = is_same.spec ∙ has.spec;
-            persists = is_same.persists ∙ has.persists;
-            over = refl;
-            same = refl;
-            decided = decided_now;
-            some = some_now;
-          });
-    }
-
-  is_search_notified : IsSearchNotified
-  is_search_notified = by g.search refl goes.search
-    where
-      by : (own : Option ℕ) → g.search ≡ own → HasPending p.directory p.searches g.consumer.spec opening.persists goes.session.cut own goes.session.pending → IsSearchNotified
-      by None own has = closed_search_notified own has.1 has
-      by (Some at) own has = open_search_notified at own has
-
-  -- the search goes on, with the messages of the write at its end
+  -- the search goes on after the write
   pub going-push : GoesOn number after g opening entries
-  going-push = record {
-    session = record {
-      count = suc goes.session.count;
-      upto = omega (arith, goes.session.upto, grown);
-      start = goes.session.start;
-      from = from_now;
-      taken = goes.session.taken;
-      ahead = goes.session.ahead ++ next;
-      whole =
-          sym (append_assoc goes.session.taken goes.session.ahead next)
-          ∙ ap (λ ms. ms ++ next) whole_now
-          ∙ sym (stream_more longer goes.session.start opening.writes goes.session.count);
-      cut = is_search_notified.cut;
-      lasts = is_search_notified.lasts;
-      linked = goes.session.linked;
-      pending = is_search_notified.pending;
-      left = is_search_notified.left;
-      reported = goes.session.reported;
-    };
-    link = goes.link;
-    search = is_search_notified.search;
-    place = place_grows longer goes.session.start opening.writes goes.session.count entries g.consumer.copy goes.session.taken goes.session.ahead place_now;
-  }
+  going-push = by g.search refl goes.search
+    where
+      by : (own : Option ℕ) → g.search ≡ own → HasPending p.directory p.searches g.consumer.spec opening.persists goes.session.cut (far_of goes.session.start opening goes.session.count handed) own goes.session.pending
+          → GoesOn number after g opening entries
+      by None own has = closed_goes own has
+      by (Some at) own has = open_goes at own has
 
 fed-push : (number : ℕ) (suffix : Name) (p : ProviderState) (w : Write) → IsSource number suffix p → (g : ConsumerNode) (known : Known) → IsFed number p g known → IsFed number (written_once p w) g known
 fed-push number suffix p w source g known fed = record {
@@ -520,37 +713,25 @@ commits_are_kept number suffix p puts drops now source replica good = commit_is 
 
 -- ---- limits
 
--- another log, or another limit
-going-limited : (number : ℕ) (p q : ProviderState) (g : ConsumerNode) (opening : ReportedOpening) (entries : List Entry) → q.directory.writes ≡ p.directory.writes
-    → q.directory.sid ≡ p.directory.sid → q.directory.history ≡ p.directory.history → q.searches ≡ p.searches
-    → GoesOn number p g opening entries → GoesOn number q g opening entries
-going-limited number p q g opening entries writes sids histories searches goes = record {
-  session = record {
-    count = goes.session.count;
-    upto = goes.session.upto ∙ ap (λ (ws : List Write). length ws) (sym writes);
-    start = goes.session.start;
-    from = subst (λ ws. BeginsFrom number (take opening.writes ws) opening.cookie (number_of goes.session.start)) (sym writes) goes.session.from;
-    taken = goes.session.taken;
-    ahead = goes.session.ahead;
-    whole = goes.session.whole ∙ ap (λ ws. stream_over number g.consumer.spec ws opening goes.session.start goes.session.count) (sym writes);
-    cut = goes.session.cut;
-    lasts = goes.session.lasts;
-    linked = goes.session.linked;
-    pending = goes.session.pending;
-    left = goes.session.left;
-    reported = goes.session.reported;
-  };
+-- another limit of the log
+going-logged : (number : ℕ) (p : ProviderState) (limit : ℕ) (g : ConsumerNode) (opening : ReportedOpening) (entries : List Entry) → GoesOn number p g opening entries → GoesOn number (log_limited p limit) g opening entries
+going-logged number p limit g opening entries goes = record {
+  session = goes.session;
   link = goes.link;
   search =
-      subst (λ es. HasPending q.directory es g.consumer.spec opening.persists goes.session.cut g.search goes.session.pending) (sym searches)
-      (pending-logged p.directory q.directory p.searches g.consumer.spec opening.persists goes.session.cut g.search goes.session.pending sids histories writes goes.search);
-  place = subst (λ ws. IsWhere (session_over number g.consumer.spec ws opening) goes.session.start opening.writes goes.session.count entries g.consumer.copy goes.session.taken goes.session.ahead) (sym writes) goes.place;
+      pending-limited p.directory limit p.searches g.consumer.spec opening.persists goes.session.cut (far_of goes.session.start opening goes.session.count (goes.session.taken ++ goes.session.linked)) g.search goes.session.pending
+      goes.search;
+  place = goes.place;
 }
 
+-- or of queues
+going-queued : (number : ℕ) (p : ProviderState) (limit : ℕ) (g : ConsumerNode) (opening : ReportedOpening) (entries : List Entry) → GoesOn number p g opening entries → GoesOn number (queue_limited p limit) g opening entries
+going-queued number p limit g opening entries goes = record { session = goes.session; link = goes.link; search = goes.search; place = goes.place }
+
 fed-limited : (number : ℕ) (p q : ProviderState) (g : ConsumerNode) (known : Known) → q.directory.writes ≡ p.directory.writes → q.directory.suffix ≡ p.directory.suffix
-    → q.directory.sid ≡ p.directory.sid → q.directory.history ≡ p.directory.history → q.searches ≡ p.searches
+    → ((opening : ReportedOpening) → GoesOn number p g opening known.entries → GoesOn number q g opening known.entries)
     → IsFed number p g known → IsFed number q g known
-fed-limited number p q g known writes suffix sids histories searches fed = record {
+fed-limited number p q g known writes suffix goes fed = record {
   held = fed.held;
   ascending = fed.ascending;
   cookie = fed.cookie;
@@ -561,7 +742,7 @@ fed-limited number p q g known writes suffix sids histories searches fed = recor
   where
     by : IsAtRest g ⊎ IsGoing number p g known → IsAtRest g ⊎ IsGoing number q g known
     by (inl rest) = inl rest
-    by (inr going) = inr (record { opening = going.opening; latest = going.latest; goes = going-limited number p q g going.opening known.entries writes sids histories searches going.goes })
+    by (inr going) = inr (record { opening = going.opening; latest = going.latest; goes = goes going.opening going.goes })
 
 -- so does another limit of the session log
 pub limits_are_kept : LimitsAreKept
@@ -577,7 +758,7 @@ limits_are_kept number suffix p limit source = record {
     few = source.few;
     apart = source.apart;
   };
-  fed = λ g known fed. fed-limited number p (log_limited p limit) g known refl refl refl refl refl fed;
+  fed = λ g known fed. fed-limited number p (log_limited p limit) g known refl refl (λ opening. going-logged number p limit g opening known.entries) fed;
   opens = λ at s found. (s, found);
   kind = refl;
   later = [];
@@ -598,7 +779,7 @@ queues_are_kept number suffix p limit source = record {
     few = source.few;
     apart = source.apart;
   };
-  fed = λ g known fed. fed-limited number p (queue_limited p limit) g known refl refl refl refl refl fed;
+  fed = λ g known fed. fed-limited number p (queue_limited p limit) g known refl refl (λ opening. going-queued number p limit g opening known.entries) fed;
   opens = λ at s found. (s, found);
   kind = refl;
   later = [];

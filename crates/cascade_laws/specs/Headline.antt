@@ -1,5 +1,5 @@
 -- What each line promises, said of the orders and the lines before it alone.
-use Rattle.std.specs.Prelude.{◌≡◌, ◌⊎◌, ℕ, pos, ◌+◌, ◌-◌, ◌<◌, ◌≤◌, Bool, true, false, ◌&&◌, ◌==◌, Option, Some, None, option_map, IfSome, List, [], ◌∷◌, ◌++◌, length, map, take, slice_get, fold, if◌then◌else◌, count_by}
+use Rattle.std.specs.Prelude.{◌≡◌, ◌⊎◌, ℕ, pos, ◌+◌, ◌-◌, ◌<◌, ◌≤◌, Bool, true, false, ◌&&◌, ◌==◌, Option, Some, None, option_map, IfSome, List, [], ◌∷◌, ◌++◌, length, map, take, slice_get, fold, if◌then◌else◌, count_by, codes}
 use Rattle.std.specs.List.{flat_map}
 use Rattle.std.specs.Str.{bytes_eq}
 use Rattle.ldap_constants.specs.declared.result_codes.TheConstants.{BUSY, E_SYNC_REFRESH_REQUIRED}
@@ -16,14 +16,15 @@ use Rattle.entry_tree.specs.declared.entry.Entry.{Entry}
 use Rattle.entry_tree.specs.declared.op.Op.TheVariants as ops
 use Rattle.entry_tree.specs.declared.op.Write.{Write}
 use Rattle.ldap_messages.specs.Whole.{message_octets}
-use Rattle.sync_model.specs.Copy.{Commit}
+use Rattle.sync_model.specs.Copy.{Commit, asked}
 use Rattle.sync_model.specs.Incremental.{number_of, sent_entry, about}
+use Rattle.sync_model.specs.Law.{IsCut, FillsStage, is_nil}
 use Rattle.sync_model.specs.Message.{SyncMessage}
-use Rattle.sync_model.specs.Stream.{SyncOperation, Start, content_after, among, group, later, stream}
+use Rattle.sync_model.specs.Stream.{SyncOperation, Start, RefreshPiece, content_after, among, last_mark, refresh, group, later, stream}
 use Rattle.sync_wire.specs.Sending.{sent}
 use Rattle.directory_writes.specs.Directory.{entries_after, last_csn, csns}
 use Rattle.directory_writes.specs.Touches.{uuids_of}
-use Rattle.sync_provider.specs.Search.{busy_end, cookie_after, session_of, whole_walk, refresh_from}
+use Rattle.sync_provider.specs.Search.{busy_end, cookie_after, session_of}
 use Rattle.cascade_world.specs.Directory.{directory_of, changed}
 use Rattle.cascade_world.specs.Opening.{message_id}
 use Rattle.cascade_script.specs.Orders.{Order}
@@ -279,38 +280,43 @@ abbrev pub session_over : ℕ → Search → List Write → ReportedOpening → 
 session_over history search writes opening =
     session_of opening.persists history history search writes
 
--- its refresh, and all its messages up to n later writes (RFC 4533, sections 3.3 and 3.4)
-abbrev pub refresh_over : ℕ → Search → List Write → ReportedOpening → Start → List SyncMessage
-refresh_over history search writes opening start =
-    refresh_from (session_over history search writes opening) start opening.writes
+-- its refresh in these pieces, and all its messages up to n writes after the last of them
+-- (RFC 4533, sections 3.3 and 3.4)
+abbrev pub refresh_over :
+    ℕ → Search → List Write → ReportedOpening → Start → List RefreshPiece → List SyncMessage
+refresh_over history search writes opening start pieces =
+    refresh (session_over history search writes opening) start opening.writes pieces
 
-abbrev pub stream_over : ℕ → Search → List Write → ReportedOpening → Start → ℕ → List SyncMessage
-stream_over history search writes opening start count =
-    let operation = session_over history search writes opening in
-    stream operation start opening.writes (whole_walk operation start opening.writes) count
+abbrev pub stream_over :
+    ℕ → Search → List Write → ReportedOpening → Start → List RefreshPiece → ℕ → List SyncMessage
+stream_over history search writes opening start pieces count =
+    stream (session_over history search writes opening) start opening.writes pieces count
 
 -- the bytes that a message is sent as
 abbrev pub sent_octets : SyncMessage → List ℕ
 sent_octets message = message_octets (sent message_id message)
 
--- a message follows these in a Stream, or it is the end with busy that follows a prefix of one
-abbrev pub Follows : (persists : Bool) → List SyncMessage → List SyncMessage → SyncMessage → Type 0
-Follows persists all earlier message =
+-- a message follows these in a Stream; or it is the end with busy that follows a prefix of one,
+-- after a write that came since the opening, and if the search ends with its refresh before all
+-- of that
+abbrev pub Follows :
+    ReportedOpening → (most : ℕ) → List SyncMessage → List SyncMessage → SyncMessage → Type 0
+Follows opening most all earlier message =
     ((rest : List SyncMessage) × (earlier ++ message ∷ rest ≡ all))
     ⊎ ((rest : List SyncMessage) × (earlier ++ rest ≡ all) × (message ≡ busy_end)
-    × (persists ≡ true))
+    × (opening.writes < most) × ((opening.persists ≡ true) ⊎ (is_nil rest ≡ false)))
 
--- the message that follows these, which begin with the refresh of a search that was opened at
--- this number of writes, is one of those that the write after `number` writes reports; and it is
--- about one identity, whose entry this write changed in what is selected
+-- the message that follows these, which begin with a refresh whose last piece has this number of
+-- writes, is one of those that the write after `number` writes reports; and it is about one
+-- identity, whose entry this write changed in what is selected
 pub record ReportsChange
-    (operation : SyncOperation) (refresh : List SyncMessage) (opened most : ℕ)
+    (operation : SyncOperation) (refreshed : List SyncMessage) (last most : ℕ)
     (earlier : List SyncMessage) (message : SyncMessage) : Type 0 where
   pub number : ℕ
-  pub from : opened ≤ number
+  pub from : last ≤ number
   pub upto : number < most
   pub prefix : List SyncMessage
-  pub place : earlier ≡ refresh ++ (later operation opened (number - opened) ++ prefix)
+  pub place : earlier ≡ refreshed ++ (later operation last (number - last) ++ prefix)
   pub rest : List SyncMessage
   pub reported : prefix ++ message ∷ rest ≡ group operation number
   pub uuid : ℕ
@@ -422,33 +428,38 @@ pub record OfCookie
   pub says : Says follows.reload follows.history follows.writes (known_of consumer said).cookie
 
 -- all that was sent since an opening, this message too, is a prefix of the messages of a search
--- from the cookie that was held then over these writes, or such a prefix and the end with busy.
--- Therefore a refresh from a cookie sends an entry whole only where the writes after those of the
--- cookie up to the number of the opening touched its identity, and each later message but the end
--- names what the write that it reports of changed
+-- from the cookie that was held then over these writes, whose walk was decided in some pieces, or
+-- such a prefix and the end with busy. Therefore a refresh from a cookie sends an entry whole only
+-- where the writes after those of the cookie up to the number of its last piece, which its end
+-- names, touched its identity, and each later message but the end names what the write that it
+-- reports of changed
 pub record IsNextOf
     (history : ℕ) (search : Search) (writes : List Write)
     (opening : ReportedOpening) (octets : List ℕ) : Type 0 where
   pub start : Start
   pub begins : BeginsFrom history (take opening.writes writes) opening.cookie (number_of start)
+  pub pieces : List RefreshPiece
+  pub cut : IsCut (session_over history search writes opening) start opening.writes pieces
   pub count : ℕ
-  pub upto : opening.writes + count ≤ length writes
+  pub upto : last_mark opening.writes pieces + count ≤ length writes
   pub earlier : List SyncMessage
   pub before : opening.sent ≡ map sent_octets earlier
   pub message : SyncMessage
   pub spelled : octets ≡ sent_octets message
   pub place :
-      Follows opening.persists
-      (stream_over history search writes opening start count) earlier message
+      Follows opening (length writes)
+      (stream_over history search writes opening start pieces count) earlier message
   pub entry_changes :
-      length earlier < length (refresh_over history search writes opening start)
+      length earlier < length (refresh_over history search writes opening start pieces)
       → (number : ℕ) (entry : Entry) → number_of start ≡ Some number
       → sent_entry message ≡ Some entry
-      → among entry.uuid (touched_over history writes number opening.writes) ≡ true
-  pub changes : length (refresh_over history search writes opening start) ≤ length earlier
+      → among entry.uuid (touched_over history writes number (last_mark opening.writes pieces))
+      ≡ true
+  pub changes :
+      length (refresh_over history search writes opening start pieces) ≤ length earlier
       → (message ≡ busy_end)
       ⊎ ReportsChange (session_over history search writes opening)
-      (refresh_over history search writes opening start) opening.writes
+      (refresh_over history search writes opening start pieces) (last_mark opening.writes pieces)
       (length writes) earlier message
 
 -- a `sent` line
@@ -458,6 +469,33 @@ pub record IsOfStream
   pub opening : ReportedOpening
   pub latest : (known_of consumer said).opening ≡ Some opening
   pub next : IsNextOf follows.history follows.search follows.writes opening octets
+
+-- of the messages that were sent since an opening, one fills the stage of a copy with these
+-- entries: those before it meet no limit, and it puts an entry, with which the entries that are
+-- staged as puts are more, or heavier, than a directory may have. A write came since the opening,
+-- for what is decided at one moment is within the limits
+pub record IsStageFull
+    (entries : List Entry) (opening : ReportedOpening) (most : ℕ) (fault : List ℕ) : Type 0 where
+  pub named : fault ≡ codes "StageFull"
+  pub since : opening.writes < most
+  pub earlier : List SyncMessage
+  pub message : SyncMessage
+  pub rest : List SyncMessage
+  pub sent : opening.sent ≡ map sent_octets (earlier ++ message ∷ rest)
+  pub fills :
+      FillsStage message_id
+      (asked message_id opening.persists
+      (record { held = entries; cookie = opening.cookie; session = None }))
+      earlier message
+
+-- a `fault` line
+pub record IsFaultOf
+    (before : List Order) (said : List ReportLine) (consumer fault : List ℕ) : Type 0 where
+  pub follows : FollowsWrites before said consumer
+  pub opening : ReportedOpening
+  pub latest : (known_of consumer said).opening ≡ Some opening
+  pub full :
+      IsStageFull (known_of consumer said).entries opening (length follows.writes) fault
 
 -- a `settled` line: it reports the number of the provider's accepted writes, and the entries that
 -- the consumer's last `stored` line reported are what it wants of all of them
@@ -517,8 +555,8 @@ IsOpenedAt n reload history writes cookie =
     (n ≡ length writes) × IsServedCookie reload history writes cookie
 
 -- a search is refused with e-syncRefreshRequired, exactly where the cookie is in its way; a
--- search that is over before its consumer knows was ended with busy; and no message is
--- refused by its consumer
+-- search that is over before its consumer knows was ended with busy; and a message is refused by
+-- its consumer only where it fills the stage
 abbrev pub ReportsRight : List Order → Order → List ReportLine → ReportLine → Type 0
 ReportsRight before order said (Stored consumer stored) =
     IsPrefixSelected before said consumer stored
@@ -529,7 +567,7 @@ ReportsRight before order said (Refused consumer persists code) =
     × OfCookie before said consumer IsUnserved
 ReportsRight before order said (Sent consumer message) = IsOfStream before said consumer message
 ReportsRight before order said (Ended consumer code) = code ≡ pos BUSY
-ReportsRight before order said (Faulted consumer fault) = ⊥
+ReportsRight before order said (Faulted consumer fault) = IsFaultOf before said consumer fault
 ReportsRight before order said (Settled consumer n) = IsSettled before said consumer n
 ReportsRight before order said (Holds consumer cookie) = IsGiven order consumer cookie
 ReportsRight before order said (Clocked time) = IsClocked order time

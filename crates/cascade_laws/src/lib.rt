@@ -11,7 +11,8 @@ ghost use Rattle.cascade_laws.specs.Run.{LinesReportAll, LinesReportWhatIsHeld, 
 /// search (RFC 4533, sections 3.3 and 3.4), or such a prefix and the end with busy; a search is
 /// refused with e-syncRefreshRequired alone, exactly where its consumer holds a cookie that is not
 /// blank and that its provider can't serve, and was declared without a reloadHint; a search that
-/// its provider ends reports busy; and no message is refused by its consumer.
+/// its provider ends reports busy; and a message is refused by its consumer only where it fills the
+/// stage of its copy, and a write came since the opening.
 pub fn lines_are_right()
     ensures { RunsAreRight }
 {}

@@ -1,5 +1,5 @@
 -- A provider of a script: its answers, and the message ID of its searches.
-use Rattle.std.proofs.Common.{◌≡◌, ◌≢◌, ◌≤◌, ℕ, Bool, true, false, Option, Some, None, List, [], ◌∷◌, drop, refl, ap, sym, subst, ◌∙◌, arith, eq-eqb, eqb-true}
+use Rattle.std.proofs.Common.{◌≡◌, ◌≢◌, ◌≤◌, ℕ, Bool, true, false, Option, Some, None, List, [], ◌∷◌, refl, ap, sym, subst, ◌∙◌, arith, eq-eqb, eqb-true}
 use Rattle.std.specs.BTreeMap.{insert_entry}
 use Rattle.std.specs.Ordering.{nat_cmp}
 use Rattle.std.specs.Prelude.{◌==◌, Ok, Err, Result, IfSome}
@@ -19,7 +19,7 @@ use Rattle.sync_messages.specs.declared.request.SyncRequest.{SyncRequest}
 use Rattle.sync_model.specs.Message.{SyncMessage}
 use Rattle.sync_model.specs.Message.SyncMessage.{AddOrModify, Delete, Present, IdSet, NewCookie, RefreshDelete, RefreshPresent, Done, Ignored}
 use Rattle.sync_provider.specs.Accepting as accepting
-use Rattle.sync_provider.specs.HandingOut.{HandOut, turn_of_message, turn_of_pending, turn_of_found, turn_of_place, turn_at, turn_at_place, turn_of, search_at, closed, handed_on, after_turn, after_a_turn}
+use Rattle.sync_provider.specs.HandingOut.{HandOut, turn_of_message, turn_of_pending, turn_of_found, turn_at, turn_of, search_at, closed, handed_on, after_turn, after_a_turn}
 use Rattle.sync_provider.specs.HandingOut.HandOut.{Hands, Closes, Waits, Unknown}
 use Rattle.sync_provider.specs.Machine.{ProviderState, each_search_notified, searches_after, judged_by, wrote, after_commit, committed, committed_each}
 use Rattle.sync_provider.specs.Queueing.{search_notified}
@@ -122,7 +122,7 @@ on_ours d es number None at ours = ours
 on_ours d es number (Some s) at ours = each-put_on IsOurs es number (advanced d s) ours (each-at IsOurs es number s ours at)
 
 -- the searches after a turn
-pub after_ours : (d : DirectoryState) (es : List (ℕ × SearchState)) (number : ℕ) (turn : HandOut) → AreOurs es → AreOurs (after_turn d es number turn)
+after_ours : (d : DirectoryState) (es : List (ℕ × SearchState)) (number : ℕ) (turn : HandOut) → AreOurs es → AreOurs (after_turn d es number turn)
 after_ours d es number (Hands message) ours = on_ours d es number (search_at es number) refl ours
 after_ours d es number (Closes code message) ours = each-closed IsOurs es number ours
 after_ours d es number Waits ours = ours
@@ -179,14 +179,3 @@ spelled_as turn handed.NoMemory has is = tt
 -- what is handed out of such a search has an encoding
 pub spelled : (d : DirectoryState) (es : List (ℕ × SearchState)) (number : ℕ) (found : Handed) → AreOurs es → IfSome (turn_of found) (λ turn. turn ≡ turn_at d es number) → IsSpelled found
 spelled d es number found ours is = spelled_as (turn_at d es number) found (turn_spelled d es number ours) is
-
-at_place_spelled : (d : DirectoryState) (es : List (ℕ × SearchState)) (number place : ℕ) (found : Option SearchState) → search_at es number ≡ found → AreOurs es → IsSpelledTurn (turn_of_place d place found)
-at_place_spelled d es number place None at ours = tt
-at_place_spelled d es number place (Some s) at ours =
-    let id : s.id ≡ message_id = each-at IsOurs es number s ours at in
-    of_pending s.id (drop place (pending d s)) (omega (arith, id))
-
--- the same of a message with others before it
-pub place_spelled : (d : DirectoryState) (es : List (ℕ × SearchState)) (number place : ℕ) (found : Handed) → AreOurs es → IfSome (turn_of found) (λ turn. turn ≡ turn_at_place d es number place) → IsSpelled found
-place_spelled d es number place found ours is =
-    spelled_as (turn_at_place d es number place) found (at_place_spelled d es number place (search_at es number) refl ours) is

@@ -1,13 +1,14 @@
 -- What the search of a consumer has pending at its provider, and after one of its messages was handed out.
-use Rattle.std.proofs.Common.{refl, ◌≡◌, ◌≢◌, ℕ, ◌+◌, ◌≤◌, Bool, true, false, Option, Some, None, List, [], ◌∷◌, length, ◌<◌, cond, ap, sym, ◌∙◌, inl, inr, arith, subst, zero, suc}
+use Rattle.std.proofs.Common.{refl, ◌≡◌, ◌≢◌, ℕ, ◌+◌, ◌≤◌, Bool, true, false, Option, Some, None, List, [], ◌∷◌, ◌++◌, length, ◌<◌, cond, ap, sym, ◌∙◌, inl, inr, arith, subst, zero, suc}
 use Rattle.std.specs.Prelude.{◌⊎◌, ◌&&◌, not, find, is_some}
 use Rattle.entry_tree.specs.Selection.{Search}
+use Rattle.sync_model.specs.Law.{is_nil}
 use Rattle.sync_model.specs.Message.{SyncMessage}
-use Rattle.sync_model.specs.Stream.{among}
+use Rattle.sync_model.specs.Stream.{Start, among}
 use Rattle.sync_model.proofs.NextMessages.{HasNext}
 use Rattle.sync_model.proofs.Pigeons.{pigeons}
 use Rattle.sync_wire.specs.Sending as wire
-use Rattle.directory_writes.specs.Directory.{DirectoryState}
+use Rattle.directory_writes.specs.Directory.{DirectoryState, with_log_limit}
 use Rattle.directory_writes.proofs.Distinct.{AreDistinct, closed-same, distinct-closed, distinct-put_on}
 use Rattle.directory_writes.proofs.Keyed.{put_on, put_on-same}
 use Rattle.sync_provider.specs.Accepting.{is_free, numbers_from, free_number}
@@ -17,8 +18,10 @@ use Rattle.sync_provider.specs.HandingOut.HandOut.{Hands}
 use Rattle.sync_provider.specs.Machine.{ProviderState}
 use Rattle.sync_provider.specs.Search.{SearchState, pending, advanced}
 use Rattle.sync_provider.proofs.Advanced.{Searches, IsAdvanced, advanced_is}
-use Rattle.sync_provider.proofs.Decided.{IsDecided, advanced_decided}
+use Rattle.sync_provider.proofs.Settled.{advanced_left}
 use Rattle.sync_provider.proofs.Kept.{turn_other}
+use Rattle.sync_provider.proofs.Streams.{StandsAt, advanced_has, limited_stands}
+use Rattle.sync_provider.proofs.Walking.{handed_of}
 use Rattle.cascade_nodes.specs.Opening.{message_id}
 use Rattle.cascade_nodes.specs.declared.node.ConsumerNode.{ConsumerNode}
 
@@ -31,23 +34,35 @@ pub cut_waits : (persists : Bool) → waits persists true ≡ false
 cut_waits true = refl
 cut_waits false = refl
 
--- the search of this number, with this specification and in this mode, has these messages pending on this directory, of
--- which there are some unless it waits for later writes; and its refresh was decided at its acceptance
-pub record IsPending (d : DirectoryState) (searches : List (ℕ × SearchState)) (selection : Search) (mode cut : Bool) (at : ℕ) (messages : List SyncMessage) : Type 0 where
+-- how far a search is: where it begins, how many writes there were at its acceptance, how many came after the last of its
+-- pieces, and the messages that were handed out
+pub record SoFar : Type 0 where
+  pub start : Start
+  pub opened : ℕ
+  pub later : ℕ
+  pub handed : List SyncMessage
+
+-- the search of this number, with this specification and in this mode, which is so far, has these messages pending on this
+-- directory, of which there are some unless it waits for later writes. While identities of its walk are left, no write came
+-- after the last of its pieces, which has them
+pub record IsPending (d : DirectoryState) (searches : List (ℕ × SearchState)) (selection : Search) (mode cut : Bool) (far : SoFar) (at : ℕ) (messages : List SyncMessage) : Type 0 where
   pub search : SearchState
   pub found : search_at searches at ≡ Some search
   pub id : search.id ≡ message_id
   pub spec : search.spec ≡ selection
   pub persists : search.persists ≡ mode
+  pub start : search.start ≡ far.start
+  pub accepted : search.accepted ≡ far.opened
   pub over : search.over ≡ cut
   pub same : pending d search ≡ messages
-  pub decided : IsDecided search.accepted search.progress
+  pub stands : StandsAt d search far.handed
+  pub walks : is_nil search.progress.left ≡ false → far.later ≡ 0
   pub some : waits mode cut ≡ false → HasNext messages
 
 -- what the search that a consumer is fed by has pending, which is nothing after its end
-abbrev pub HasPending : DirectoryState → List (ℕ × SearchState) → Search → (mode cut : Bool) → Option ℕ → List SyncMessage → Type 0
-HasPending d searches selection mode cut None messages = (messages ≡ []) × (waits mode cut ≡ false)
-HasPending d searches selection mode cut (Some at) messages = IsPending d searches selection mode cut at messages
+abbrev pub HasPending : DirectoryState → List (ℕ × SearchState) → Search → (mode cut : Bool) → SoFar → Option ℕ → List SyncMessage → Type 0
+HasPending d searches selection mode cut far None messages = (messages ≡ []) × (waits mode cut ≡ false)
+HasPending d searches selection mode cut far (Some at) messages = IsPending d searches selection mode cut far at messages
 
 -- no search of the consumer is open or runs, and nothing is in its link
 pub record IsAtRest (f : ConsumerNode) : Type 0 where
@@ -68,8 +83,8 @@ pub record HasRoom (p : ProviderState) (f : ConsumerNode) : Type 0 where
 -- ---- the searches after the turn
 
 -- the own one has the rest pending or is over, the others are as before
-pub record IsAfter (d : DirectoryState) (searches later : Searches) (spec : Search) (mode cut : Bool) (at : ℕ) (own : Option ℕ) (rest : List SyncMessage) : Type 0 where
-  pub has : HasPending d later spec mode cut own rest
+pub record IsAfter (d : DirectoryState) (searches later : Searches) (spec : Search) (mode cut : Bool) (far : SoFar) (at : ℕ) (own : Option ℕ) (rest : List SyncMessage) : Type 0 where
+  pub has : HasPending d later spec mode cut far own rest
   pub only : (k : ℕ) → own ≡ Some k → k ≡ at
   pub elsewhere : (k : ℕ) → k ≢ at → search_at later k ≡ search_at searches k
   pub here : (s : SearchState) → search_at later at ≡ Some s → own ≡ Some at
@@ -81,24 +96,31 @@ pub turn_is : (d : DirectoryState) (searches : Searches) (at : ℕ) (s : SearchS
 turn_is d searches at s first rest found some id =
     ap (turn_of_found d) found ∙ ap (turn_of_pending s.id) some ∙ ap (λ n. turn_of_message n first) id
 
+-- one message more was handed out
+abbrev pub one_further : SoFar → SyncMessage → SoFar
+one_further far message = record far { handed = far.handed ++ message ∷ [] }
+
 -- after a message was handed out the rest is pending, and the other searches are as before
-pub handed_out : (d : DirectoryState) (searches : Searches) (spec : Search) (mode : Bool) (at : ℕ) (messages rest : List SyncMessage) (first : SyncMessage) (has : IsPending d searches spec mode false at messages) → messages ≡ first ∷ rest
-    → turn_at d searches at ≡ Hands (wire.sent message_id first) → (waits mode false ≡ false → HasNext rest) → AreDistinct searches
-    → IsAfter d searches (after_turn d searches at (turn_at d searches at)) spec mode false at (Some at) rest
-handed_out d searches spec mode at messages rest first has some is more apart = record {
+pub handed_out : (d : DirectoryState) (searches : Searches) (spec : Search) (mode : Bool) (far : SoFar) (at : ℕ) (messages rest : List SyncMessage) (first : SyncMessage) (has : IsPending d searches spec mode false far at messages)
+    → messages ≡ first ∷ rest → turn_at d searches at ≡ Hands (wire.sent message_id first) → (waits mode false ≡ false → HasNext rest) → AreDistinct searches
+    → IsAfter d searches (after_turn d searches at (turn_at d searches at)) spec mode false (one_further far first) at (Some at) rest
+handed_out d searches spec mode far at messages rest first has some is more apart = record {
   has = record {
     search = advanced d has.search;
     found = ap (λ es. search_at es at) later ∙ put_on-same searches at (advanced d has.search) has.search has.found;
     id = now.id ∙ has.id;
     spec = now.spec ∙ has.spec;
     persists = now.persists ∙ has.persists;
+    start = has.start;
+    accepted = has.accepted;
     over = now.over ∙ has.over;
     same = now.same;
-    decided = advanced_decided d has.search has.search.accepted has.decided;
+    stands = inl (has.over, advanced_has d has.search far.handed first rest has.over (has.same ∙ some) (handed_of d has.search far.handed has.over has.stands));
+    walks = λ left. has.walks (advanced_left d has.search left);
     some = more;
   };
   only = λ k mine. let same : k ≡ at = cc in same;
-  elsewhere = λ k far. turn_other d searches at k (turn_at d searches at) far;
+  elsewhere = λ k far'. turn_other d searches at k (turn_at d searches at) far';
   here = λ s found. refl;
   apart = subst AreDistinct (sym later) (distinct-put_on searches at (advanced d has.search) apart);
 }
@@ -110,12 +132,12 @@ handed_out d searches spec mode at messages rest first has some is more apart = 
     now = advanced_is d has.search rest first has.over (has.same ∙ some)
 
 -- after the last message the search is closed, and the other searches are as before
-pub closed_then : (d : DirectoryState) (searches : Searches) (spec : Search) (mode cut : Bool) (at : ℕ) (turn : HandOut) (rest : List SyncMessage) → turn_at d searches at ≡ turn → after_turn d searches at turn ≡ handing.closed searches at → rest ≡ []
-    → waits mode cut ≡ false → AreDistinct searches → IsAfter d searches (after_turn d searches at (turn_at d searches at)) spec mode cut at None rest
-closed_then d searches spec mode cut at turn rest is goes none ends apart = record {
+pub closed_then : (d : DirectoryState) (searches : Searches) (spec : Search) (mode cut : Bool) (far : SoFar) (at : ℕ) (turn : HandOut) (rest : List SyncMessage) → turn_at d searches at ≡ turn → after_turn d searches at turn ≡ handing.closed searches at → rest ≡ []
+    → waits mode cut ≡ false → AreDistinct searches → IsAfter d searches (after_turn d searches at (turn_at d searches at)) spec mode cut far at None rest
+closed_then d searches spec mode cut far at turn rest is goes none ends apart = record {
   has = (none, ends);
   only = λ k mine. let never : ⊥ = cc in absurd never;
-  elsewhere = λ k far. turn_other d searches at k (turn_at d searches at) far;
+  elsewhere = λ k far'. turn_other d searches at k (turn_at d searches at) far';
   here = λ s found. let bad : None ≡ Some s = sym (closed-same searches at apart) ∙ ap (λ es. search_at es at) (sym later) ∙ found in let never : ⊥ = cc in absurd never;
   apart = subst AreDistinct (sym later) (distinct-closed searches at apart);
 }
@@ -124,10 +146,10 @@ closed_then d searches spec mode cut at turn rest is goes none ends apart = reco
     later = ap (after_turn d searches at) is ∙ goes
 
 -- a search that has nothing pending, and waits for nothing, is over
-pub own_over : (searches : Searches) (own : Option ℕ) (p : ProviderState) (f : ConsumerNode) (mode cut : Bool) (messages : List SyncMessage) → messages ≡ [] → waits mode cut ≡ false
-    → HasPending p.directory p.searches f.consumer.spec mode cut own messages → own ≡ None
-own_over searches None p f mode cut messages none ends has = refl
-own_over searches (Some at) p f mode cut messages none ends has = let some = (has.some ends).same in let bad : [] ≡ (has.some ends).next ∷ (has.some ends).later = sym none ∙ some in let never : ⊥ = cc in absurd never
+pub own_over : (searches : Searches) (own : Option ℕ) (p : ProviderState) (f : ConsumerNode) (mode cut : Bool) (far : SoFar) (messages : List SyncMessage) → messages ≡ [] → waits mode cut ≡ false
+    → HasPending p.directory p.searches f.consumer.spec mode cut far own messages → own ≡ None
+own_over searches None p f mode cut far messages none ends has = refl
+own_over searches (Some at) p f mode cut far messages none ends has = let some = (has.some ends).same in let bad : [] ≡ (has.some ends).next ∷ (has.some ends).later = sym none ∙ some in let never : ⊥ = cc in absurd never
 
 -- what the search of this number was is there still
 abbrev Stays : Searches → Searches → ℕ → Type 0
@@ -138,42 +160,48 @@ abbrev pub OwnStays : Searches → Searches → Option ℕ → Type 0
 OwnStays searches later own = (at : ℕ) → own ≡ Some at → Stays searches later at
 
 -- what is pending of a search that is there still is pending still
-pub pending-other : (d : DirectoryState) (searches later : Searches) (spec : Search) (mode cut : Bool) (own : Option ℕ) (messages : List SyncMessage) → OwnStays searches later own
-    → HasPending d searches spec mode cut own messages → HasPending d later spec mode cut own messages
-pending-other d searches later spec mode cut None messages stays has = has
-pending-other d searches later spec mode cut (Some at) messages stays has = record {
+pub pending-other : (d : DirectoryState) (searches later : Searches) (spec : Search) (mode cut : Bool) (far : SoFar) (own : Option ℕ) (messages : List SyncMessage) → OwnStays searches later own
+    → HasPending d searches spec mode cut far own messages → HasPending d later spec mode cut far own messages
+pending-other d searches later spec mode cut far None messages stays has = has
+pending-other d searches later spec mode cut far (Some at) messages stays has = record {
   search = has.search;
   found = stays at refl has.search has.found;
   id = has.id;
   spec = has.spec;
   persists = has.persists;
+  start = has.start;
+  accepted = has.accepted;
   over = has.over;
   same = has.same;
-  decided = has.decided;
+  stands = has.stands;
+  walks = has.walks;
   some = has.some;
 }
 
--- with another log of the directory the same is pending
-pub pending-logged : (d e : DirectoryState) (searches : Searches) (spec : Search) (mode cut : Bool) (own : Option ℕ) (messages : List SyncMessage) → e.sid ≡ d.sid → e.history ≡ d.history → e.writes ≡ d.writes
-    → HasPending d searches spec mode cut own messages → HasPending e searches spec mode cut own messages
-pending-logged d e searches spec mode cut None messages sids histories writes has = has
-pending-logged d e searches spec mode cut (Some at) messages sids histories writes has = record {
+-- with another limit of the log the same is pending
+pub pending-limited : (d : DirectoryState) (limit : ℕ) (searches : Searches) (spec : Search) (mode cut : Bool) (far : SoFar) (own : Option ℕ) (messages : List SyncMessage)
+    → HasPending d searches spec mode cut far own messages → HasPending (with_log_limit d limit) searches spec mode cut far own messages
+pending-limited d limit searches spec mode cut far None messages has = has
+pending-limited d limit searches spec mode cut far (Some at) messages has = record {
   search = has.search;
   found = has.found;
   id = has.id;
   spec = has.spec;
   persists = has.persists;
+  start = has.start;
+  accepted = has.accepted;
   over = has.over;
-  same = (λ i. pending (record d { sid = sids i; history = histories i; writes = writes i }) has.search) ∙ has.same;
-  decided = has.decided;
+  same = has.same;
+  stands = limited_stands d limit has.search far.handed has.stands;
+  walks = has.walks;
   some = has.some;
 }
 
 -- the search of a consumer that is fed is open
-pub own_search : (d : DirectoryState) (searches : Searches) (spec : Search) (mode cut : Bool) (own : Option ℕ) (at : ℕ) (messages : List SyncMessage) → own ≡ Some at → HasPending d searches spec mode cut own messages
+pub own_search : (d : DirectoryState) (searches : Searches) (spec : Search) (mode cut : Bool) (far : SoFar) (own : Option ℕ) (at : ℕ) (messages : List SyncMessage) → own ≡ Some at → HasPending d searches spec mode cut far own messages
     → (s : SearchState) × (search_at searches at ≡ Some s)
-own_search d searches spec mode cut None at messages is has = let never : ⊥ = cc in absurd never
-own_search d searches spec mode cut (Some k) at messages is has = let same : k ≡ at = cc in (has.search, ap (search_at searches) (sym same) ∙ has.found)
+own_search d searches spec mode cut far None at messages is has = let never : ⊥ = cc in absurd never
+own_search d searches spec mode cut far (Some k) at messages is has = let same : k ≡ at = cc in (has.search, ap (search_at searches) (sym same) ∙ has.found)
 
 -- ---- no number is free
 

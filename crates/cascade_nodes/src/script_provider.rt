@@ -8,7 +8,7 @@ ghost use Rattle.std.specs.List.{list_all};
 ghost use Rattle.sync_provider.specs.Accepting as accepting;
 ghost use Rattle.directory_writes.specs.Directory as directory;
 ghost use Rattle.sync_provider.specs.Answering.{WriteLeaves, CommitsLeave, HandOutLeaves, DropLeaves};
-ghost use Rattle.sync_provider.specs.HandingOut.{has_message, is_closing, search_at, turn_at_place, turn_of};
+ghost use Rattle.sync_provider.specs.HandingOut.{is_closing, search_at, turn_of};
 ghost use Rattle.sync_provider.specs.Machine as machine;
 ghost use Rattle.sync_provider.specs.Placing.{ComesBack, put_back};
 ghost use Rattle.sync_provider.specs.Returning.{snapshot_of, HasNoWriteSince};
@@ -177,27 +177,6 @@ impl ScriptProvider {
         ensures spelled { IsSpelled result }
     {
         self.provider.hand_out(number)
-    }
-
-    /// The message with n before it of those that the search with this number has pending, which
-    /// has a spelling. None is handed out.
-    pub fn pending_at(&self, number: u64, place: usize) -> Handed
-        ensures turn { IfSome (turn_of result)
-            (λ turn. turn ≡ turn_at_place self.now.directory self.now.searches number place) }
-        ensures memory { result ≡ Handed.NoMemory
-            → has_message (turn_at_place self.now.directory self.now.searches number place)
-            ≡ true }
-        ensures spelled { IsSpelled result }
-    {
-        self.provider.pending_at(number, place)
-    }
-
-    /// The next message of the search with this number counts as handed out. It takes no memory.
-    #[tactic(auto, using(crate::proofs::Asked::after_ours))]
-    pub fn skip(&mut self, number: u64)
-        ensures { self.new ≡ machine.handed_out self.old number }
-    {
-        self.provider.skip(number);
     }
 
     /// The search with this number as it stands now, for a later return to this moment. It is

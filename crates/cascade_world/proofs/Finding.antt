@@ -5,12 +5,12 @@ use Rattle.std.specs.List.{list_any}
 use Rattle.std.specs.Prelude.{find, is_some}
 use Rattle.std.specs.Str.{bytes_eq}
 use Rattle.sync_provider.specs.Machine.{ProviderState}
-use Rattle.sync_provider.proofs.Kept.{find_passes}
 use Rattle.cascade_nodes.specs.declared.node.ProviderNode.{ProviderNode}
 use Rattle.cascade_nodes.specs.declared.node.ConsumerNode.{ConsumerNode}
 use Rattle.cascade_world.specs.World.{WorldState, is_provider_node, is_consumer_node, has_node, first_changed, with_consumer_node, with_provider, with_provider_node}
 use Rattle.cascade_world.proofs.SameNames.{itself, pointed_at}
 use Rattle.cascade_world.proofs.Lists.{find-changed, find-unchanged, find-last, find-passed, find-nowhere}
+use Rattle.entry_tree.proofs.Finding.{found_passes}
 use Rattle.entry_tree.proofs.NameKeys.{same_bytes}
 
 -- what stands at this name now, and the same as before at the others
@@ -41,7 +41,7 @@ consumer_nodes_by consumer_nodes name = find (is_consumer_node name) consumer_no
 
 -- the provider node that is found by a name has it
 pub provider_node_name : (provider_nodes : List ProviderNode) (name : List ℕ) (provider_node : ProviderNode) → provider_nodes_by provider_nodes name ≡ Some provider_node → name ≡ provider_node.name
-provider_node_name provider_nodes name provider_node e = same_bytes name provider_node.name (find_passes (is_provider_node name) provider_nodes provider_node e)
+provider_node_name provider_nodes name provider_node e = same_bytes name provider_node.name (found_passes (is_provider_node name) provider_nodes provider_node e)
 
 -- one name, one provider node
 pub same_provider_node : (provider_nodes : List ProviderNode) (name other : List ℕ) (provider_node there : ProviderNode) → provider_nodes_by provider_nodes name ≡ Some provider_node → provider_nodes_by provider_nodes other ≡ Some there → name ≡ other → provider_node ≡ there
@@ -49,13 +49,13 @@ same_provider_node provider_nodes name other provider_node there e e' same = let
 
 -- the consumer node that is found by a name has it
 pub consumer_node_name : (consumer_nodes : List ConsumerNode) (name : List ℕ) (f : ConsumerNode) → consumer_nodes_by consumer_nodes name ≡ Some f → name ≡ f.name
-consumer_node_name consumer_nodes name f e = same_bytes name f.name (find_passes (is_consumer_node name) consumer_nodes f e)
+consumer_node_name consumer_nodes name f e = same_bytes name f.name (found_passes (is_consumer_node name) consumer_nodes f e)
 
 -- another provider at the node of a name leaves the other nodes
 pub provider_changed : (provider_nodes : List ProviderNode) (name : List ℕ) (provider_node : ProviderNode) (provider : ProviderState) → provider_nodes_by provider_nodes name ≡ Some provider_node
     → IsChanged (provider_nodes_by provider_nodes) (provider_nodes_by (with_provider name provider provider_nodes)) name (record provider_node { provider = provider })
 provider_changed provider_nodes name provider_node provider e = record {
-  here = find-changed (is_provider_node name) (λ (r : ProviderNode). record r { provider = provider }) provider_nodes provider_node e (find_passes (is_provider_node name) provider_nodes provider_node e);
+  here = find-changed (is_provider_node name) (λ (r : ProviderNode). record r { provider = provider }) provider_nodes provider_node e (found_passes (is_provider_node name) provider_nodes provider_node e);
   others =
       λ other miss. find-unchanged (is_provider_node name) (is_provider_node other) (λ (r : ProviderNode). record r { provider = provider }) provider_nodes
       (λ r hit. let apart : is_provider_node other r ≡ false = ap (bytes_eq other) (sym (same_bytes name r.name hit)) ∙ miss in (apart, apart));
@@ -85,7 +85,7 @@ provider_node_changed provider_nodes name provider_node after e same = record {
 pub pointed_changed : (consumer_nodes : List ConsumerNode) (name source : List ℕ) (f : ConsumerNode) → consumer_nodes_by consumer_nodes name ≡ Some f
     → IsChanged (consumer_nodes_by consumer_nodes) (consumer_nodes_by (first_changed (is_consumer_node name) (pointed_at source) consumer_nodes)) name (pointed_at source f)
 pointed_changed consumer_nodes name source f e = record {
-  here = find-changed (is_consumer_node name) (pointed_at source) consumer_nodes f e (find_passes (is_consumer_node name) consumer_nodes f e);
+  here = find-changed (is_consumer_node name) (pointed_at source) consumer_nodes f e (found_passes (is_consumer_node name) consumer_nodes f e);
   others =
       λ other miss. find-unchanged (is_consumer_node name) (is_consumer_node other) (pointed_at source) consumer_nodes
       (λ g hit. let apart : is_consumer_node other g ≡ false = ap (bytes_eq other) (sym (same_bytes name g.name hit)) ∙ miss in (apart, apart));

@@ -1,11 +1,11 @@
 -- An accepted write leaves entries that can be sent.
-use Rattle.std.proofs.Common.{◌≡◌, ◌≤◌, ◌<◌, ◌^◌, ℕ, Bool, true, not, cond, nat_lt, List, [], ◌∷◌, refl, Option, Some, None}
+use Rattle.std.proofs.Common.{◌≡◌, ◌≤◌, ◌<◌, ◌^◌, ℕ, Bool, true, not, cond, nat_lt, List, [], ◌∷◌, Option, Some, None}
 use Rattle.std.specs.Prelude.{IfSome}
 use Rattle.std.specs.List.{All, filter, find, list_all}
 use Rattle.std.proofs.lemmas.Bool.{cond_both}
 use Rattle.std.proofs.lemmas.List.Elements.{All-cons, All-append, All-filter, All-head, All-tail, All-map, All-weaker}
-use Rattle.schema_rules.specs.declared.attributes.Attribute.{Attribute}
-use Rattle.schema_rules.specs.Attributes.{is_given, is_sound, repeats_value, weight_of}
+use Rattle.schema_rules.proofs.Given.{given-sound}
+use Rattle.schema_rules.specs.Attributes.{weight_of}
 use Rattle.csn_cookie.specs.Csn.{CsnValue, IsCsn}
 use Rattle.dn_names.specs.Names.{TypeAndValue}
 use Rattle.entry_tree.specs.declared.edit.Edit.{Edit}
@@ -24,7 +24,6 @@ use Rattle.sync_wire.specs.CanBeSent.{CanBeSent}
 use Rattle.directory_laws.proofs.Codes.{light-added, light-edited}
 use Rattle.directory_laws.proofs.Given.{given-after_edits}
 use Rattle.directory_laws.proofs.Renaming.{sent-renamed}
-use Rattle.std.proofs.lemmas.Bool.{and_parts, and_from}
 
 -- what is found among entries that can be sent can be sent
 sent-found : (test : Entry → Bool) (entries : List Entry) → All CanBeSent entries → IfSome (find test entries) CanBeSent
@@ -34,12 +33,6 @@ sent-found test (e ∷ entries) sound =
     (λ _. All-head CanBeSent e entries sound) (λ _. sent-found test entries (All-tail CanBeSent e entries sound))
 
 -- ---- Add
-
-given-sound : (attrs : List Attribute) → list_all is_sound attrs ≡ true → list_all is_given attrs ≡ true
-given-sound [] sound = refl
-given-sound (a ∷ attrs) sound =
-    let parts = and_parts (is_sound a) (list_all is_sound attrs) sound in
-    and_from (is_given a) (list_all is_given attrs) (and_parts (is_given a) (not (repeats_value a)) parts.0).0 (given-sound attrs parts.1)
 
 sent-put : (e : Entry) (entries : List Entry) → CanBeSent e → All CanBeSent entries → All CanBeSent (put e entries)
 sent-put e entries here sound =

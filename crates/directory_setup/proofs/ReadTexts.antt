@@ -49,6 +49,6 @@ given_back old mid new before after same fresh rose counts =
     let some : 0 < after = omega (arith, fresh, rose) in
     omega (arith, counts some, same)
 
--- a text came, so what holds unless a read failed does hold
-pub text_read : (Holds : Type 0) (file : FileText) (text : List ℕ) → file ≡ found.Text text → (file ≢ found.Failed → Holds) → Holds
-text_read Holds file text is holds = holds (λ failed. let wrong : found.Text text ≡ found.Failed = sym is ∙ failed in cc)
+-- a text is no failed read
+pub text_came : (file : FileText) (text : List ℕ) → file ≡ found.Text text → file ≢ found.Failed
+text_came file text is failed = let wrong : found.Text text ≡ found.Failed = sym is ∙ failed in cc

@@ -86,6 +86,15 @@ abbrev pub IsReadFrom : Option Files → List ℕ → FileText → Type 0
 IsReadFrom files name (found.Text text) = IsTextOf files name text
 IsReadFrom files name found.Failed = Unit {0}
 
+-- how the failed calls of what is read from are counted: some failed where the answer is this one,
+-- and else none did, nor where memory ran out
+pub record CountsReadFaults {T E : Type 0}
+    (fault : T) (result : Result T E) (old new : ℕ) : Type 0 where
+  pub failed : IfOk result (λ found. found ≡ fault → CountHasRisen old new)
+  pub sound : IfOk result (λ found. found ≢ fault → new ≡ old)
+  pub err : OnErr result (new ≡ old)
+  pub later : old ≤ new
+
 -- why the text of a configuration is refused: it is too long, or else by its keys, for which out of
 -- memory is no reason
 abbrev pub IsRefusedConfig : List ℕ → SetupRefusal → Type 0

@@ -18,6 +18,7 @@ ghost use Rattle.std.specs.Prelude.{
 };
 ghost use Rattle.directory_setup.specs.Setup.{
   Configures,
+  CountsReadFaults,
   IsAskable,
   IsEmpty,
   IsReadConfig,
@@ -133,12 +134,8 @@ fn configure<R: Wait, F: Shelf>(
     ensures files { F.files shelf.new ≡ F.files shelf.old }
     ensures configures { IfOk result (Configures (F.files shelf.old) name.now) }
     ensures filter { IfOk result IsAskable }
-    ensures failed { IfOk result (λ found. found ≡ Configured.ReadFault
-        → CountHasRisen (F.shelf_fault_count shelf.old) (F.shelf_fault_count shelf.new)) }
-    ensures sound { IfOk result (λ found. found ≢ Configured.ReadFault
-        → F.shelf_fault_count shelf.new ≡ F.shelf_fault_count shelf.old) }
-    ensures err { OnErr result (F.shelf_fault_count shelf.new ≡ F.shelf_fault_count shelf.old) }
-    ensures later { F.shelf_fault_count shelf.old ≤ F.shelf_fault_count shelf.new }
+    ensures faults { CountsReadFaults Configured.ReadFault result
+        (F.shelf_fault_count shelf.old) (F.shelf_fault_count shelf.new) }
 {
     let found = read_file(rt, alloc, shelf, name)?;
     let text = match found {
@@ -200,12 +197,8 @@ fn load<R: Wait, F: Shelf, K: Clock>(
     ensures files { F.files shelf.new ≡ F.files shelf.old }
     ensures loads { IfOk result (λ loading. Loads (F.files shelf.old) name.now
         (port_state provider.old) loading (port_state provider.new)) }
-    ensures failed { IfOk result (λ loading. loading ≡ Loading.NotRead
-        → CountHasRisen (F.shelf_fault_count shelf.old) (F.shelf_fault_count shelf.new)) }
-    ensures sound { IfOk result (λ loading. loading ≢ Loading.NotRead
-        → F.shelf_fault_count shelf.new ≡ F.shelf_fault_count shelf.old) }
-    ensures err { OnErr result (F.shelf_fault_count shelf.new ≡ F.shelf_fault_count shelf.old) }
-    ensures later { F.shelf_fault_count shelf.old ≤ F.shelf_fault_count shelf.new }
+    ensures faults { CountsReadFaults Loading.NotRead result
+        (F.shelf_fault_count shelf.old) (F.shelf_fault_count shelf.new) }
 {
     let Some(name) = name else {
         return Ok(Loading::Loaded);

@@ -1,7 +1,7 @@
 //! The texts of files.
 
 ghost use Rattle.std.specs.Prelude.{◌≡◌, ◌≢◌, ◌≤◌, IfOk, OnErr};
-ghost use Rattle.directory_setup.specs.Setup.{IsReadFrom};
+ghost use Rattle.directory_setup.specs.Setup.{CountsReadFaults, IsReadFrom};
 ghost use Rattle.directory_setup.specs.Texts.{IsReadOf};
 ghost use Rattle.directory_setup.specs.declared.text_file.FileText.TheVariants.{Failed};
 ghost use Rattle.sync_io.specs.Faults.{CountHasRisen};
@@ -60,12 +60,8 @@ pub fn read_file<R: Wait, F: Shelf>(
 ) -> Result<FileText, NoMemory>
     ensures files { F.files shelf.new ≡ F.files shelf.old }
     ensures text { IfOk result (IsReadFrom (F.files shelf.old) name.now) }
-    ensures failed { IfOk result (λ found. found ≡ Failed
-        → CountHasRisen (F.shelf_fault_count shelf.old) (F.shelf_fault_count shelf.new)) }
-    ensures sound { IfOk result (λ found. found ≢ Failed
-        → F.shelf_fault_count shelf.new ≡ F.shelf_fault_count shelf.old) }
-    ensures err { OnErr result (F.shelf_fault_count shelf.new ≡ F.shelf_fault_count shelf.old) }
-    ensures later { F.shelf_fault_count shelf.old ≤ F.shelf_fault_count shelf.new }
+    ensures faults { CountsReadFaults Failed result
+        (F.shelf_fault_count shelf.old) (F.shelf_fault_count shelf.new) }
 {
     match shelf.fetch(name) {
         Ok(file) => {

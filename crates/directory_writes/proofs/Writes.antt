@@ -1,6 +1,6 @@
 -- What one more write makes of the parts that are kept beside the writes, and what later writes leave of an earlier state.
 use Rattle.std.proofs.Common.{◌≡◌, ◌<◌, ◌+◌, ◌⊎◌, ℕ, List, [], ◌∷◌, ◌++◌, length, take, refl, ap, sym, ◌∙◌, arith, subst, append-nil}
-use Rattle.std.specs.Prelude.{◌≤◌, nat_lt, nat_le, true, false, cond, Option, Some, None, Result, Ok, Err, IfOk}
+use Rattle.std.specs.Prelude.{◌≤◌, nat_lt, nat_le, true, false, cond, Option, Some, None, Err}
 use Rattle.std.proofs.Math.Seq.{take-append_seam}
 use Rattle.std.proofs.lemmas.List.Sums.{sum_by-append}
 use Rattle.std.proofs.lemmas.Bool.{and_parts, leb-true, ltb-true}
@@ -232,11 +232,6 @@ ready_is d s op preview ready was plan same after = record {
   after = subst (λ (x : Preview). IsStanding (with_write d (record { csn = x.csn; op = op })) ready.after) (sym same)
       (subst (IsStanding (with_write d (record { csn = preview.csn; op = op }))) (sym after) (standing-push d s op preview was plan));
 }
-
--- of two facts of what is Ok follows a third
-pub if_ok_both : {T E : Type 0} (r : Result T E) (P Q R : T → Type 0) → ((x : T) → P x → Q x → R x) → IfOk r P → IfOk r Q → IfOk r R
-if_ok_both (Ok x) P Q R both p q = both x p q
-if_ok_both (Err e) P Q R both p q = tt
 
 -- ---- what a write that is ready leaves
 

@@ -15,7 +15,7 @@ use Rattle.directory_writes.specs.declared.commit.DirectoryCommitFault.{Director
 use Rattle.directory_writes.specs.declared.commit.DirectoryCommitFault.TheVariants.{LimitReached, DuplicateName, NoMemory}
 use Rattle.directory_writes.specs.declared.preview.Preview.{Preview}
 
--- what rejects the entries that a commit would leave: more than 20,000, then heavier than 64
+-- what rejects the entries that a commit would leave: more than 200,000, then heavier than 256
 -- MiB, then two of one name
 abbrev pub held_refusal : List Entry → Option DirectoryCommitFault
 held_refusal entries =

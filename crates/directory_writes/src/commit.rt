@@ -10,10 +10,10 @@ use entry_tree::CommitRefusal;
 use std::alloc::AllocError;
 
 /// The most entries of a directory.
-const MOST_ENTRIES: u64 = 20_000;
+const MOST_ENTRIES: u64 = 200_000;
 
-/// The most that the entries of a directory weigh, 64 MiB.
-const MOST_WEIGHT: u64 = 67_108_864;
+/// The most that the entries of a directory weigh, 256 MiB.
+const MOST_WEIGHT: u64 = 268_435_456;
 
 /// Why a directory refuses a commit of a replica.
 #[derive(Clone, Copy, Debug, PartialEq, Eq)]

@@ -1,7 +1,6 @@
 -- Items that pass a test, among those that something is made of.
-use Rattle.std.proofs.Common.{◌≡◌, Bool, true, false, if◌then◌else◌, List, [], ◌∷◌, ◌⊎◌, inl, inr, map, filter, find, Some, refl, sym, ap, ◌∙◌, subst}
+use Rattle.std.proofs.Common.{◌≡◌, Bool, true, false, if◌then◌else◌, List, [], ◌∷◌, ◌⊎◌, inl, inr, map, filter, find, Some, refl, sym, ap, ◌∙◌}
 use Rattle.std.proofs.lemmas.Bool.{false≢true}
-use Rattle.std.proofs.lemmas.Option.{none-some, same_Some}
 use Rattle.drill_plan.proofs.Firsts.{with_first}
 
 module _ {X : Type 0} where
@@ -12,17 +11,6 @@ module _ {X : Type 0} where
   -- one that fails is not
   pub filter_no : (p : X → Bool) (x : X) (xs : List X) → p x ≡ false → filter p (x ∷ xs) ≡ filter p xs
   filter_no p x xs fails = ap (λ b. if b then x ∷ filter p xs else filter p xs) fails
-
-  -- an item that is found passes
-  pub found_passes : (is : X → Bool) (xs : List X) (top : X) → find is xs ≡ Some top → is top ≡ true
-  found_passes is [] top found = absurd (none-some top found)
-  found_passes is (x ∷ xs) top found = by (λ later. found_passes is xs top later) (is x) refl
-    where
-      by : (find is xs ≡ Some top → is top ≡ true) → (b : Bool) → is x ≡ b → is top ≡ true
-      by rest true passes =
-          let first : Some x ≡ Some top = subst (λ b. (if b then Some x else find is xs) ≡ Some top) passes found in
-          subst (λ y. is y ≡ true) (same_Some x top first) passes
-      by rest false fails = rest (subst (λ b. (if b then Some x else find is xs) ≡ Some top) fails found)
 
   -- two tests may be made in either order
   pub filter_swap : (p q : X → Bool) (xs : List X) → filter p (filter q xs) ≡ filter q (filter p xs)

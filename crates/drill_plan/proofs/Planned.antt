@@ -3,13 +3,13 @@ use Rattle.std.proofs.Common.{◌≡◌, ℕ, zero, suc, ◌<◌, ◌==◌, Bool
 use Rattle.std.proofs.lemmas.Bool.{or_left, or_right, lt-ltb}
 use Rattle.dn_names.specs.Names.{same_name, parent_of}
 use Rattle.dn_names.proofs.EqualNames.{AreEqual, AreEqual-same_name, same_name-AreEqual, AreEqual-drop, rdn_same, name_refl}
+use Rattle.sync_model.proofs.Gather.{Each}
 use Rattle.drill_plan.specs.declared.plan.DrillPlan.{DrillPlan}
 use Rattle.drill_plan.specs.Names.{suffix, unit_rdn, unit_name, entry_name}
 use Rattle.drill_plan.specs.Numbers.{slot_of, kind_of}
 use Rattle.drill_plan.specs.Operations.{WriterState, drawn, first_state, is_present, taken_up, change, operation, after_operation, operations, writer_operations}
 use Rattle.drill_plan.proofs.Plainly.{Name}
 use Rattle.drill_plan.proofs.Regions.{IsWithin}
-use Rattle.drill_plan.proofs.Runs.{Each}
 use Rattle.drill_plan.proofs.Steps.{same_writer}
 use Rattle.drill_plan.proofs.Units.{is_unit, own, own_from, own_region}
 

@@ -13,8 +13,9 @@ use Rattle.entry_writes.specs.declared.op.Op.TheVariants.{Add, Delete, Modify, R
 use Rattle.entry_writes.specs.Effects.{edited, modified, new_name, new_attributes, moved, renamed, effect}
 use Rattle.entry_writes.specs.State.{ascends, is_named, entry_named}
 use Rattle.entry_tree.proofs.Directory.{ascends_filter}
+use Rattle.entry_tree.proofs.Finding.{found_passes}
 use Rattle.drill_plan.proofs.Firsts.{with_first, mapped_same, with_first_found, made_by, first_identified}
-use Rattle.drill_plan.proofs.Filtered.{filter_no, found_passes, filter_swap, filter_within, find_within, filter_first, filter_unseen, IsUnseen}
+use Rattle.drill_plan.proofs.Filtered.{filter_no, filter_swap, filter_within, find_within, filter_first, filter_unseen, IsUnseen}
 use Rattle.drill_plan.proofs.Plainly.{Name, all_before, put_last, moved_with, moved_parts}
 
 -- what is below a name of the part, equals one, or moves below one, is of the part

@@ -18,16 +18,12 @@ use Rattle.entry_tree.proofs.Directory.{ascends_filter}
 use Rattle.entry_tree.proofs.Moving.{moved_keeps}
 use Rattle.entry_writes.proofs.Passing.{list_all-filter}
 use Rattle.entry_tree.proofs.Replacing.{replaced_keeps}
+use Rattle.sync_model.proofs.Gather.{Each}
 use Rattle.sync_model.proofs.Histories.{ascends-effect}
 use Rattle.drill_plan.specs.Plain.{plain}
 use Rattle.drill_plan.specs.Schedule.{NumberedWrites, writes_of, operations_by}
 use Rattle.drill_plan.proofs.Plainly.{Name, all_before, put_last, plain_effect, effect_plain}
 use Rattle.drill_plan.proofs.Regions.{IsRegion, IsWithin, part, part_effect, other_effect}
-
--- a fact of each item
-abbrev pub Each : {X : Type 0} → (X → Type 0) → List X → Type 0
-Each P [] = Unit {0}
-Each P (x ∷ xs) = P x × Each P xs
 
 -- ---- identities
 

@@ -11,6 +11,7 @@ use Rattle.entry_writes.specs.Effects.{effect}
 use Rattle.entry_tree.proofs.IdentityNumbers.{identity_rises}
 use Rattle.entry_tree.specs.History.{identity, state_from}
 use Rattle.entry_tree.specs.Selection.{Search, is_in_scope, is_selected, select}
+use Rattle.sync_model.proofs.Gather.{Each}
 use Rattle.drill_plan.specs.declared.plan.DrillPlan.{DrillPlan}
 use Rattle.drill_plan.specs.Ending.{history, entries_after, write_with, writes_in_turn, end_of, AreOf, IsSchedule, SchedulesEndAlike}
 use Rattle.drill_plan.specs.Names.{suffix, suffix_attributes}
@@ -24,7 +25,7 @@ use Rattle.drill_plan.proofs.Gathered.{among, all_pass, alike_among}
 use Rattle.drill_plan.proofs.Plainly.{Name, plain_effect}
 use Rattle.drill_plan.proofs.Planned.{writer_within}
 use Rattle.drill_plan.proofs.Regions.{IsWithin, part}
-use Rattle.drill_plan.proofs.Runs.{Each, IsReady, part_runs, others_run}
+use Rattle.drill_plan.proofs.Runs.{IsReady, part_runs, others_run}
 use Rattle.drill_plan.proofs.Units.{own, is_short, own_region, own_apart, own_long}
 
 -- ---- operations by the numbers of their writers

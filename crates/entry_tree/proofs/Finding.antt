@@ -3,6 +3,7 @@ use Rattle.std.proofs.Common.{◌≡◌, ◌<◌, ◌≤◌, ℕ, Bool, true, fa
 use Rattle.std.specs.Prelude.{bytes_eq, is_some, option_and_then, find}
 use Rattle.std.specs.List.{list_any}
 use Rattle.std.proofs.lemmas.Bool.{and_parts, eqb-true, eq-eqb, ne_eqb, false≢true, cases_lt}
+use Rattle.std.proofs.lemmas.Option.{none-some, same_Some}
 use Rattle.dn_names.specs.Names.{TypeAndValue, same_name, parent_of}
 use Rattle.dn_names.specs.Paths.{path_key, HasPath}
 use Rattle.dn_names.proofs.Alike.{both_or_none}
@@ -72,13 +73,13 @@ first_by_least test (e ∷ es) least asc is = by (λ found holds. first_by_least
         later (Some n) (sym (same_rest fails n) ∙ has.0, λ u holds. has.1 u (same_rest fails u ∙ holds))
         ∙ sym (at_rest n (λ same. false≢true (sym fails ∙ ap (passes test) (sym at_head ∙ ap (entry_at (e ∷ es)) same) ∙ has.0)))
 
--- the entry that a test finds passes it
-pub found_passes : (test : Entry → Bool) (es : List Entry) (x : Entry) → find test es ≡ Some x → test x ≡ true
-found_passes test [] x found = let never : ⊥ = cc in absurd never
-found_passes test (e ∷ es) x found = by (found_passes test es x) (test e) refl found
+-- the item that a test finds passes it
+pub found_passes : {X : Type 0} (test : X → Bool) (xs : List X) (x : X) → find test xs ≡ Some x → test x ≡ true
+found_passes test [] x found = absurd (none-some x found)
+found_passes test (y ∷ xs) x found = by (found_passes test xs x) (test y) refl found
   where
-    by : (find test es ≡ Some x → test x ≡ true) → (b : Bool) → test e ≡ b → cond b (Some e) (find test es) ≡ Some x → test x ≡ true
-    by rest true holds here = let same : e ≡ x = cc in ap test (sym same) ∙ holds
+    by : (find test xs ≡ Some x → test x ≡ true) → (b : Bool) → test y ≡ b → cond b (Some y) (find test xs) ≡ Some x → test x ≡ true
+    by rest true holds here = ap test (sym (same_Some y x here)) ∙ holds
     by rest false fails there = rest there
 
 -- ---- by names

@@ -1,9 +1,10 @@
 -- What a specification selects from entries, histories of writes, commits that there is room for,
--- what these are judged by, the parts of a tree, and names that an equality pins, with what
--- entry_writes says of entries and writes.
+-- what these are judged by, the parts of a tree, identities in their order, and names that an
+-- equality pins, with what entry_writes says of entries and writes.
 pub mod FilterCode
 pub mod Fitting
 pub mod History
+pub mod IdentityOrder
 pub mod Judging
 pub mod NameIndex
 pub mod Pinned

@@ -22,9 +22,9 @@ use std::collections::BTreeMap;
 /// Why the entries after a commit may not be held.
 #[derive(Clone, Copy, Debug, PartialEq, Eq)]
 pub enum CommitRefusal {
-    /// There would be more than 20,000 entries.
+    /// There would be more than 200,000 entries.
     TooMany,
-    /// The entries would weigh more than 64 MiB.
+    /// The entries would weigh more than 256 MiB.
     TooHeavy,
     /// These two would have one name: the first whose name a later one has, and the first such.
     SameName(u128, u128),

@@ -49,6 +49,9 @@ pub(crate) fn same_named(
 ) -> Result<Option<(u128, u128)>, NoMemory>
     ensures { IfOk result (λ pair. pair ≡ state.same_named (map (λ e. e.now) entries.now)) }
 {
+    if entries.len() < 2 {
+        return Ok(None);
+    }
     let mut names = BTreeMap::new(alloc);
     let mut pair = None;
     for entry in entries.iter().rev() {

@@ -8,6 +8,7 @@ mod commit;
 mod copying;
 mod delete;
 mod held;
+mod identities;
 mod judging;
 mod listing;
 mod modify;

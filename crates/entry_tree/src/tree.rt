@@ -65,7 +65,7 @@ impl Tree {
         }
     }
 
-    /// How many entries there are, 20,000 at most.
+    /// How many entries there are, 200,000 at most.
     pub fn len(&self) -> usize
         ensures value { result ≡ length self.now }
         ensures bound { result ≤ state.most_entries }
@@ -73,7 +73,7 @@ impl Tree {
         self.entries.len()
     }
 
-    /// What the entries weigh, 64 MiB at most.
+    /// What the entries weigh, 256 MiB at most.
     pub fn weight(&self) -> u64
         ensures value { result ≡ state.total_weight self.now }
         ensures bound { result ≤ state.most_weight }

@@ -68,10 +68,10 @@ abbrev pub most_entry_weight : ℕ
 most_entry_weight = 65536
 
 abbrev pub most_entries : ℕ
-most_entries = 20000
+most_entries = 200000
 
 abbrev pub most_weight : ℕ
-most_weight = 67108864
+most_weight = 268435456
 
 -- more entries than a directory may have, or heavier ones
 abbrev pub exceeds_limits : List Entry → Bool

@@ -15,13 +15,13 @@ use std::alloc::Global;
 const MOST_ENTRY_WEIGHT: u64 = 65_536;
 
 /// The most entries of a directory.
-pub const MOST_ENTRIES: usize = 20_000;
+pub const MOST_ENTRIES: usize = 200_000;
 
 /// The most that the entries of a directory weigh.
-pub const MOST_WEIGHT: u64 = 67_108_864;
+pub const MOST_WEIGHT: u64 = 268_435_456;
 
 /// Refuses an entry of this weight, beside others that weigh so much, in bytes, with
-/// adminLimitExceeded (11): where it weighs more than 65,536, or all of them more than 67,108,864.
+/// adminLimitExceeded (11): where it weighs more than 65,536, or all of them more than 268,435,456.
 pub fn check_weight(weight: u64, others: u64) -> Result<(), OpFault>
     requires { others ≤ state.most_weight }
     ensures ok { OnOk result (spec.weight_code weight (others + weight) ≡ None) }

@@ -69,6 +69,14 @@ impl EntryList {
         Ok(())
     }
 
+    /// Gives up the list for its entries, in their order.
+    pub fn into_items(self) -> Vec<Entry>
+        ensures { result.items ≡ self }
+    {
+        let EntryList { items } = self;
+        items
+    }
+
     /// Lends the entries, in their order.
     pub fn list(&self) -> &[Entry]
         ensures { result.now ≡ self.now }

@@ -11,7 +11,7 @@ use Rattle.ldap_filter.specs.Reading.{◌>>=◌, Reading, refused, past, many_in
 use Rattle.ldap_filter.specs.FilterTree.{FilterTree, Trees, all_of, any_of, negated, equal, substrings, at_least, at_most, present, approx, extensible, no_trees, more_trees, trees, listed, depth, deepest}
 use Rattle.ldap_filter.specs.Writing.{is_filled, is_absent_or_filled, are_filled, has_substrings_text, has_text, have_texts, are_bytes, is_absent_or_bytes, are_sound_pieces, is_sound, are_sound, value_text, end_text, middle_text, enclosed, substrings_text, text_of, texts_of}
 use Rattle.ldap_filter.proofs.Values.{joined, many_stops, many_one, value_read}
-use Rattle.ldap_ber.proofs.Lists.{list_all-push}
+use Rattle.ldap_ber.proofs.Lists.{list_all_push}
 
 -- ---- types
 
@@ -194,7 +194,7 @@ pieces_read levels stop name initial middle last rest text sound =
     ap (λ (t : List ℕ). filter_in (suc levels) stop (enclosed (name ++ 61 ∷ t) ++ rest)) tail
     ∙ signed_read levels stop name 61 (value_text i ++ flat_map starred_text ps) rest (substrings name initial middle last) typed.0 refl
     (ap (equal_at name stop) (joined (value_text i) (flat_map starred_text ps) (41 ∷ rest))
-    ∙ equal_read name i ps stop rest (end_bytes initial bytes.0) (list_all-push are_bytes middle (or_empty last) others.0 (end_bytes last others.1))
+    ∙ equal_read name i ps stop rest (end_bytes initial bytes.0) (list_all_push are_bytes middle (or_empty last) others.0 (end_bytes last others.1))
     ∙ ap (λ (t : FilterTree). Ok (t, 41 ∷ rest)) (asserted_is name initial middle last there.0 first.0 end.1))
 
 -- ---- filters

@@ -10,7 +10,8 @@ use Rattle.std.proofs.Common.{ℕ, List, [], ◌∷◌}
 use Rattle.std.specs.contracts.alloc.Global as Global
 use Rattle.turn_cell.specs.contracts.pass.Pass as Pass
 use Rattle.sync_provider.specs.contracts.journal_note.JournalNote as JournalNote
-use Rattle.shared_directory.proofs.Sent.{directory_sync, pass_field_send, pass_send, spec_sync}
+use Rattle.entry_tree.proofs.Sent.{spec_sync}
+use Rattle.shared_directory.proofs.Sent.{directory_sync, pass_field_send, pass_send}
 use Rattle.shared_directory.specs.contracts.directory.SharedDirectory as SharedDirectory
 use Rattle.shared_directory.specs.contracts.held.HeldDirectory as HeldDirectory
 use Rattle.shared_directory.specs.contracts.held.HeldDirectoryJournalled.TheImpl.{ghosts}

@@ -63,12 +63,12 @@ pub fn attributes_of(alloc: Global, reader: &mut Reader) -> Result<RawList, Comp
     Ok(attributes)
 }
 
-/// How many attributes a list of these octets has room for at first: one for each 32 octets, but
+/// How many attributes a list of these octets has room for at first: one for each 24 octets, but
 /// sixteen at most. So they need not be counted, and a long value takes no room in the list.
 fn room_for(octets: usize) -> usize
     ensures { result ≤ 16 }
 {
-    let room = octets / 32;
+    let room = octets / 24;
     if room < 16 { room } else { 16 }
 }
 

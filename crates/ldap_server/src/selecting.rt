@@ -16,7 +16,7 @@ use crate::response::Response;
 use crate::session::Session;
 use csn_cookie::Csn;
 use entry_tree::{Entry, EntryList};
-use ldap_ber::{NoMemory, Octets, OctetsList, discard};
+use ldap_ber::{NoMemory, Octets, OctetsList};
 use ldap_messages::{ControlList, Message, Protocol};
 use schema_rules::{Attribute, AttributeType, RawAttribute, RawList};
 use std::alloc::{AllocError, Global};
@@ -323,8 +323,7 @@ impl<P: Port> Session<P> {
     }
 
     /// Sends the entries from a place on, in their order. They are given up a batch at a time while
-    /// they are sent, so that they don't stand beside the whole answer, but for where memory for
-    /// the batches runs out.
+    /// they are sent, so that they don't stand beside the whole answer.
     fn send_from(
         &mut self,
         id: u32,
@@ -339,13 +338,9 @@ impl<P: Port> Session<P> {
             selection.entry.types_only) (drop place entries))
             (point_in P.state self.old) result (point_in P.state self.new) }
     {
-        let (_, rest) = entries.list().split_at(place);
-        match in_batches(self.alloc, rest) {
-            Ok(batches) => {
-                discard(entries);
-                self.send_batches(id, batches, selection)
-            }
-            Err(_) => self.send_each_entry(id, rest, selection),
+        match in_batches(self.alloc, entries.into_items(), place) {
+            Ok(batches) => self.send_batches(id, batches, selection),
+            Err(_) => Err(AllocError),
         }
     }
 

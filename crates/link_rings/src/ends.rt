@@ -8,13 +8,13 @@ use std::alloc::{AllocError, Global};
 
 /// The end that offers items. It can go to another thread.
 #[derive(Drop)]
-pub struct Producer {
+pub struct RingProducer {
     end: rtrb::Producer<Bytes>,
 }
 
 /// The end that takes items. It can go to another thread.
 #[derive(Drop)]
-pub struct Consumer {
+pub struct RingConsumer {
     end: rtrb::Consumer<Bytes>,
 }
 
@@ -23,7 +23,7 @@ pub struct Consumer {
 pub struct Full(pub Bytes);
 
 /// The two ends of a new ring with `capacity` slots. It is `NoMemory` where memory runs out.
-pub fn ring(alloc: Global, capacity: usize) -> Result<(Producer, Consumer), AllocError>
+pub fn ring(alloc: Global, capacity: usize) -> Result<(RingProducer, RingConsumer), AllocError>
     requires { 1 ≤ capacity }
     ensures ends { IfOk result (λ ends. AreOneRing ends.0 ends.1) }
     ensures producer { IfOk result (λ ends.
@@ -31,10 +31,13 @@ pub fn ring(alloc: Global, capacity: usize) -> Result<(Producer, Consumer), Allo
     ensures consumer { IfOk result (λ ends. (taken ends.1 ≡ []) × (known_items ends.1 ≡ [])) }
 {
     let (producer, consumer) = RingBuffer::new(alloc, capacity)?;
-    Ok((Producer { end: producer }, Consumer { end: consumer }))
+    Ok((
+        RingProducer { end: producer },
+        RingConsumer { end: consumer },
+    ))
 }
 
-impl Producer {
+impl RingProducer {
     /// Puts the item after those that were offered before, or gives it back where no slot is free.
     /// Takes no memory.
     ///
@@ -69,7 +72,7 @@ impl Producer {
     }
 }
 
-impl Consumer {
+impl RingConsumer {
     /// The item that was offered first of those that were not taken yet, or None where there is
     /// none. Takes no memory.
     ///
@@ -90,7 +93,7 @@ impl Consumer {
 
     /// The number of items that were offered and not taken, for a thread that holds both ends. The
     /// consumer then knows of all of them, and as many calls of `take` give them. Takes no memory.
-    pub fn beside(&mut self, producer: &mut Producer) -> usize
+    pub fn beside(&mut self, producer: &mut RingProducer) -> usize
         requires { AreOneRing producer.old self.old }
         ensures left { result ≡ length (known_items self.new) }
         ensures fifo { taken self.new ++ known_items self.new ≡ offered producer.new }

@@ -304,19 +304,19 @@ has -> 4 6 7 j
 # A stage is full.
 new
 once
-stages 20000 -> Staged
+stages 200000 -> Staged
 add 0 - cn=0 CSN -> Staged
-add 20000 - cn=20000 CSN -> StageFull
+add 200000 - cn=200000 CSN -> StageFull
 has -> -
 # One more entry than there may be is refused where the refresh ends.
 new
 once
-stages 20000 -> Staged
+stages 200000 -> Staged
 briefly doneDeletes 0 c -> Stored
 once
-add 20000 - cn=20000 CSN -> Staged
+add 200000 - cn=200000 CSN -> Staged
 doneDeletes 0 d -> StageFull
-bounds -> 20000 false Some(19999)
+bounds -> 200000 false Some(199999)
 ";
 
 /// What else is done with a consumer.

@@ -171,7 +171,7 @@ fn entry_of(alloc: Global, uuid: u64, text: &str) -> Result<Entry, Fail>
 }
 
 /// The entries of a commit, which stand with `&` between them and what is dropped.
-#[tactic(auto, using(crate::proofs::Puts::one_more))]
+#[tactic(auto, using(ldap_ber::proofs::Lists::list_all_push))]
 fn puts_of(alloc: Global, of: &str) -> Result<EntryList, Fail>
     ensures sound { IfOk result (λ puts. list_all is_sound_put puts ≡ true) }
     ensures light { IfOk result (λ puts. list_all is_within_entry_limit puts ≡ true) }

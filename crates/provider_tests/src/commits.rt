@@ -80,7 +80,7 @@ fn push_refusal(alloc: Global, text: &mut String, fault: CommitFault) -> Result<
     Ok(())
 }
 
-#[tactic(auto, using(crate::proofs::Puts::one_more))]
+#[tactic(auto, using(ldap_ber::proofs::Lists::list_all_push))]
 pub(crate) fn puts_of(alloc: Global, of: &str) -> Result<EntryList, Fail>
     ensures sound { IfOk result (λ puts. list_all is_sound_put puts ≡ true) }
     ensures light { IfOk result (λ puts. list_all is_within_entry_limit puts ≡ true) }

@@ -19,6 +19,7 @@ use Rattle.entry_tree.specs.declared.op.Op.TheVariants as op
 use Rattle.entry_tree.specs.declared.op.Write.{Write}
 use Rattle.sync_consumer.specs.declared.commit.Commit.{Commit}
 use Rattle.sync_provider.proofs.Commits.{unopposed}
+use Rattle.sync_provider.proofs.Journals.{noted_journal}
 use Rattle.sync_provider.specs.Committing.{commit_refusal, fault_of}
 use Rattle.sync_provider.specs.Ports.{CommitReplies, IsLater, Journal, PortState, committed_by, noted, noted_all, wrote_in}
 use Rattle.sync_provider.specs.declared.journal_note.JournalNote.{JournalNote}
@@ -45,11 +46,6 @@ own_front n (e ∷ front) rest all = (all.0, own_front n front rest all.1)
 own_last : (n : ℕ) (front : Journal) (e : JournalNote × ℕ) → AllOwn n (front ++ e ∷ []) → IsOwn n e
 own_last n [] e all = all.0
 own_last n (first ∷ front) e all = own_last n front e all.1
-
-noted_journal : (p : PortState) (note : JournalNote) (by : ℕ) → (noted p note by).journal ≡ p.journal ++ (note, by) ∷ []
-noted_journal p (Wrote write) by = refl
-noted_journal p (Opened opening) by = refl
-noted_journal p (Closed end) by = refl
 
 all_own : (n : ℕ) (p : PortState) (entries : Journal) → AllOwn n (noted_all p entries).journal → AllOwn n p.journal
 all_own n p [] own = own

@@ -1,4 +1,5 @@
 pub mod FewValues
+pub mod Given
 pub mod Joined
 pub mod Joining
 pub mod Lines

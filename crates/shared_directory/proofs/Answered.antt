@@ -5,6 +5,7 @@ use Rattle.std.proofs.lemmas.Bool.{false≢true, eqb-false, ne_eqb}
 use Rattle.std.proofs.lemmas.List.{map-append, length-map, length-set, take-append-drop, get_or-set_same, get_or-set_other}
 use Rattle.std.proofs.lemmas.Option.{none-some, same_Some}
 use Rattle.dn_names.specs.Names.{is_at_or_below}
+use Rattle.entry_tree.proofs.Finding.{found_passes}
 use Rattle.entry_tree.specs.declared.entry.Entry.{Entry}
 use Rattle.entry_tree.specs.declared.op.Op.{Op}
 use Rattle.entry_tree.specs.declared.op.Op.TheVariants.{Commit}
@@ -35,7 +36,6 @@ use Rattle.sync_provider.specs.declared.writing.CommitFault.{CommitFault}
 use Rattle.sync_provider.specs.declared.writing.CommitFault.TheVariants.{NoMemory, NotAReplica}
 use Rattle.sync_provider.specs.declared.writing.Reply.{Reply}
 use Rattle.sync_provider.proofs.Journals.{find_same}
-use Rattle.sync_provider.proofs.Kept.{find_passes}
 use Rattle.shared_directory.specs.Numbers.{no_openers, numbered_with}
 use Rattle.shared_directory.specs.Desks.{NumberedState, later_in, port_journal, port_in, IsNumbered, IsAnswered, unmade_fault}
 use Rattle.shared_directory.proofs.Numbering.{notes_in, notes-numbered, open_by, open_by_notes}
@@ -237,7 +237,7 @@ module _ (number : ℕ) (d : NumberedState) (is : IsNumbered d) (v : JournalledP
     opened_low = find_low (λ m. not (is_open old.journal m)) 1 64 n free
 
     not_open : is_open old.journal n ≡ false
-    not_open = by (is_open old.journal n) (find_passes (λ m. not (is_open old.journal m)) (numbers_from 1 64) n free)
+    not_open = by (is_open old.journal n) (found_passes (λ m. not (is_open old.journal m)) (numbers_from 1 64) n free)
       where
         by : (b : Bool) → not b ≡ true → b ≡ false
         by true h = absurd (false≢true h)

@@ -1,76 +1,59 @@
 -- A pass of a directory and a desk may go to another thread, and threads may share a directory.
 --
--- Beside most types stands a fact that says so of them. Beside a search filter and a shared map,
--- which hold themselves, and beside all that holds one of them, none does: here it is shown, of
--- each from its fields.
+-- Beside most types stands a fact that says so of them. Beside all that holds a search filter or a
+-- shared map none does: here it is shown, of each from its fields.
 use denote.RattleType.{RattleType}
 use denote.Ref.{NamedLft, ShrRef}
 use denote.Struct.Field.{row_field, shr_ref_field}
 use denote.Param.Send.{IsSend, IsSync, sendable, shr_send}
 use denote.Param.SendFields.{as_row_send, declared_send}
 use Rattle.std.specs.contracts.option.Option as Option
-use Rattle.std.specs.declared.cmp.Ord as ord
-use Rattle.std.specs.declared.cmp.PartialEq as eq
-use Rattle.std.specs.declared.cmp.PartialOrd as partial
 use Rattle.std.proofs.option.Option.TheSendSync as option
-use Rattle.std.proofs.Crossing.{crosses, Arc-send, Arc-sync, Box-send, Box-sync, Vec-send, Vec-sync}
+use Rattle.std.proofs.Crossing.{crosses, Vec-send, Vec-sync}
 use Rattle.turn_cell.proofs.cell.TurnCell.TheSendSync as cells
 use Rattle.turn_cell.proofs.pass.Pass.TheSendSync as passes
 use Rattle.turn_cell.specs.contracts.pass.Pass as Pass
 use Rattle.turn_cell.specs.declared.journalled.Journalled as Journalled
-use Rattle.ldap_ber.proofs.octets.Octets.TheSendSync as octets
 use Rattle.csn_cookie.proofs.maker.CsnMaker.TheSendSync as makers
 use Rattle.session_log.proofs.log.SessionLog.TheSendSync as logs
 use Rattle.persist_queues.proofs.queue.SearchQueue.TheSendSync as queues
 use Rattle.persist_queues.specs.contracts.queue.SearchQueue as SearchQueue
-use Rattle.shared_map.proofs.nodes.Nodes.TheLaws.TheKnot as nodes
-use Rattle.shared_map.proofs.nodes.MapPair.TheSendSync as pairs
-use Rattle.shared_map.specs.contracts.nodes.Nodes as Nodes
-use Rattle.shared_map.specs.contracts.ordered.SharedMap as SharedMap
+use Rattle.shared_map.proofs.Sent.{map_send}
 use Rattle.dn_names.proofs.dn.Dn.TheSendSync as names
-use Rattle.ldap_filter.proofs.filter.Filter.TheLaws.TheKnot as filters
-use Rattle.ldap_filter.proofs.filter.Pieces.TheSendSync as pieces
-use Rattle.ldap_filter.specs.contracts.filter.Filter as Filter
 use Rattle.entry_writes.proofs.entry.Entry.TheSendSync as entries
 use Rattle.entry_writes.proofs.op.Write.TheSendSync as writes
 use Rattle.entry_writes.proofs.touched.Touched.TheSendSync as changes
-use Rattle.entry_tree.proofs.spec.Scope.TheSendSync as scopes
-use Rattle.entry_tree.specs.contracts.spec.Spec as Spec
+use Rattle.entry_tree.proofs.Sent.{spec_field_send, spec_send, spec_sync}
 use Rattle.entry_tree.specs.contracts.tree.Tree as Tree
 use Rattle.directory_writes.proofs.start.Start.TheSendSync as starts
 use Rattle.directory_writes.specs.contracts.directory.Directory as Directory
 use Rattle.directory_writes.specs.contracts.previous.Previous as Previous
 use Rattle.directory_writes.specs.contracts.standing.Standing as Standing
 use Rattle.sync_provider.proofs.journal_note.ClosedSearch.TheSendSync as ends
-use Rattle.sync_provider.proofs.pending_refresh.PendingRefresh.TheSendSync as refreshes
+use Rattle.sync_provider.proofs.parts.Parts.TheSendSync as parts
 use Rattle.sync_provider.proofs.persist_message.PersistMessage.TheSendSync as messages
 use Rattle.sync_provider.proofs.provider.Kind.TheSendSync as kinds
+use Rattle.sync_provider.specs.contracts.changed_set.ChangedSet as ChangedSet
 use Rattle.sync_provider.specs.contracts.journal.Journal as Journal
 use Rattle.sync_provider.specs.contracts.journal_note.JournalNote as JournalNote
 use Rattle.sync_provider.specs.contracts.journal_note.SearchChange as SearchChange
 use Rattle.sync_provider.specs.contracts.journal_note.SearchEvent as SearchEvent
 use Rattle.sync_provider.specs.contracts.open_search.OpenSearch as OpenSearch
 use Rattle.sync_provider.specs.contracts.opened_search.OpenedSearch as OpenedSearch
+use Rattle.sync_provider.specs.contracts.pending_refresh.PendingRefresh as PendingRefresh
 use Rattle.sync_provider.specs.contracts.persist_message.PersistMessage as PersistMessage
 use Rattle.sync_provider.specs.contracts.persist_message.PersistMessageWeighs.TheImpl as weighs
 use Rattle.sync_provider.specs.contracts.provider.Provider as Provider
 use Rattle.sync_provider.specs.contracts.search_table.SearchTable as SearchTable
+use Rattle.sync_provider.specs.contracts.staged_group.StagedGroup as StagedGroup
 use Rattle.sync_provider.specs.contracts.sync_directory.SyncDirectory as SyncDirectory
+use Rattle.sync_provider.specs.contracts.walk.Walk as Walk
+use Rattle.sync_provider.specs.contracts.walk.WalkPlace as WalkPlace
 use Rattle.shared_directory.specs.contracts.desk.Desk as Desk
 use Rattle.shared_directory.specs.contracts.directory.SharedDirectory as SharedDirectory
 use Rattle.shared_directory.specs.contracts.held.HeldDirectory as HeldDirectory
 use Rattle.shared_directory.specs.contracts.held.HeldDirectoryJournalled.TheImpl.{ghosts}
 use Rattle.shared_directory.specs.contracts.numbered.NumberedProvider as NumberedProvider
-
--- ---- maps
-
-module _ (K V : RattleType) (sk : IsSend K) (yk : IsSync K) (sv : IsSend V) (yv : IsSync V) where
-  nodes_send : IsSend (Nodes.the_field K V).row
-  nodes_send = search (nodes.both_send-Nodes, pairs.the_field_send, pairs.the_field_sync, Arc-send, Arc-sync, sendable) depth 20
-
-  -- a map may go to another thread, where its keys and values may, and threads may share them
-  pub map_send : (o : ord.Ghosts K.Denot) (e : eq.Ghosts K.Denot) (p : partial.Ghosts K.Denot) → IsSend (SharedMap.the_row K V o e p)
-  map_send o e p = search (nodes_send, sendable) depth 20
 
 -- ---- the entries of a directory
 
@@ -88,25 +71,6 @@ standing_send = search (tree_send, map_send, makers.the_send, previous_kept_send
 
 directory_send : IsSend Directory.the_row
 directory_send = search (standing_send, logs.the_send, names.the_send, writes.the_send, Vec-send, sendable) depth 20
-
--- ---- what searches ask for
-
-filter_send : IsSend (Filter.the_field).row
-filter_send = search (filters.send-Filter, octets.the_send, pieces.the_field_send, Box-send, Vec-send) depth 20
-
-filter_sync : IsSync (Filter.the_field).row
-filter_sync = search (filters.sync-Filter, octets.the_sync, pieces.the_field_sync, Box-sync, Vec-sync) depth 20
-
--- what a search asks for may go to another thread with what holds it
-pub spec_field_send : IsSend (Spec.the_field).row
-spec_field_send = search (filter_send, names.the_send, scopes.the_field_send, sendable) depth 20
-
-spec_send : IsSend Spec.the_row
-spec_send = search (filter_send, names.the_send, scopes.the_field_send, sendable) depth 20
-
--- threads may share what a search asks for
-pub spec_sync : IsSync Spec.the_row
-spec_sync = search (filter_sync, names.the_sync, scopes.the_field_sync, sendable) depth 20
 
 -- ---- the journal
 
@@ -127,8 +91,23 @@ journal_send = search (search_event_send, Vec-send, sendable) depth 20
 queue_send : IsSend (SearchQueue.the_row PersistMessage.the_row weighs.ghosts)
 queue_send = queues.the_send PersistMessage.the_row weighs.ghosts messages.the_send
 
+changed_set_send : IsSend ChangedSet.the_row
+changed_set_send = search (map_send, sendable) depth 20
+
+walk_place_send : IsSend (WalkPlace.the_field).row
+walk_place_send = search (tree_send, option.the_field_send, crosses, sendable) depth 20
+
+walk_send : IsSend Walk.the_row
+walk_send = search (walk_place_send, sendable) depth 20
+
+refresh_send : IsSend PendingRefresh.the_row
+refresh_send = search (walk_send, changed_set_send, parts.the_send, Vec-send, sendable) depth 20
+
+staged_group_send : IsSend StagedGroup.the_row
+staged_group_send = search (changed_set_send, messages.the_send, Vec-send, sendable) depth 20
+
 open_search_send : IsSend OpenSearch.the_row
-open_search_send = search (spec_send, spec_sync, queue_send, option.the_field_send, refreshes.the_send, messages.the_send, starts.the_field_send, crosses, sendable) depth 30 fits 5000
+open_search_send = search (spec_send, spec_sync, queue_send, option.the_field_send, refresh_send, staged_group_send, starts.the_field_send, crosses, sendable) depth 30 fits 5000
 
 search_table_send : IsSend SearchTable.the_row
 search_table_send = search (open_search_send, option.the_send, crosses, sendable) depth 20

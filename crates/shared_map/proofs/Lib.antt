@@ -5,3 +5,4 @@ pub mod Counts
 pub mod Keys
 pub mod Opened
 pub mod Parts
+pub mod Sent

@@ -6,18 +6,20 @@ use Rattle.std.specs.Map.{keys_of}
 use Rattle.std.proofs.lemmas.List.Sums.{sum_by-cons}
 use Rattle.schema_rules.specs.Attributes.{weight_of}
 use Rattle.entry_tree.specs.declared.entry.Entry.{Entry}
-use Rattle.entry_tree.specs.State.{ascends, found_weight, is_identified, most_weight, total_weight}
-use Rattle.entry_tree.proofs.Putting.{total_put}
+use Rattle.entry_tree.specs.State.{ascends, exceeds_limits, found_weight, is_identified, most_entries, most_weight, same_named, total_weight}
+use Rattle.entry_tree.proofs.Putting.{length_put, total_put}
 use Rattle.sync_model.specs.Copy.{Stage, effected, put_or_dropped, puts_of, slot}
 use Rattle.sync_model.specs.Within.{against}
 use Rattle.sync_model.proofs.Taking.{IsOwn, IsKeyed, ascends-effected}
-use Rattle.sync_consumer.specs.Holding.{IsConsumerContent, HeldNames, IsEntryMap}
+use Rattle.sync_consumer.specs.Holding.{IsConsumerContent, HeldNames, IsEntryMap, IsIndexOf}
 use Rattle.entry_tree.specs.Touched.{rises}
 use Rattle.sync_consumer.specs.Staging.{change_of, changes_in}
 use Rattle.sync_consumer.specs.declared.stage.StagedChange.{StagedChange}
 use Rattle.sync_consumer.specs.declared.stage.StagedChange.TheVariants.{AddOrModify, Delete}
 use Rattle.sync_consumer.proofs.Keyed.{lookup_below}
+use Rattle.sync_consumer.proofs.Opposing.{unopposed_apart, unopposed_within}
 use Rattle.sync_consumer.proofs.Rising.{head_below, tail_rises}
+use Rattle.sync_consumer.proofs.Stages.{limits, within_limits}
 
 abbrev weight : Entry → ℕ
 weight e = weight_of e.attrs
@@ -124,3 +126,57 @@ light_from held changes k change up light puts low is =
     let all = puts_from changes k in
     let less = light_effected held (changes_in (drop (suc k) changes)) up in
     omega (arith, light, puts, own, all, less)
+
+-- ---- room for them
+
+few_filter : (test : Entry → Bool) (es : List Entry) → length (filter test es) ≤ length es
+few_filter test [] = omega arith
+few_filter test (e ∷ es) = by (test e) (few_filter test es)
+  where
+    by : (b : Bool) → length (filter test es) ≤ length es → length (cond b (e ∷ filter test es) (filter test es)) ≤ length (e ∷ es)
+    by true less = omega (arith, less)
+    by false less = omega (arith, less)
+
+-- a stage leaves no more entries than there were and it puts
+few_effected : (held : List Entry) (stage : Stage) → ascends held ≡ true → length (effected held stage) ≤ length held + length (puts_of stage)
+few_effected held [] up = omega arith
+few_effected held (c ∷ stage) up = by c.1 (few_effected held stage up)
+  where
+    by : (o : Option Entry) → length (effected held stage) ≤ length held + length (puts_of stage)
+        → length (put_or_dropped (effected held stage) c.0 o) ≤ length held + length (cons_option o (puts_of stage))
+    by None less = omega (arith, less, few_filter (λ entry. not (is_identified c.0 entry)) (effected held stage))
+    by (Some e) less = omega (arith, less, length_put e (effected held stage) (ascends-effected stage held up))
+
+-- what a stage leaves is within the limits where all that there was and that it puts is
+pub fits_effected : (held : List Entry) (stage : Stage) → ascends held ≡ true → length held + length (puts_of stage) ≤ most_entries
+    → total_weight held + total_weight (puts_of stage) ≤ most_weight → exceeds_limits (effected held stage) ≡ false
+fits_effected held stage up few light =
+    let count = few_effected held stage up in
+    let weight = light_effected held stage up in
+    within_limits (effected held stage) (omega (arith, few, count)) (omega (arith, light, weight))
+
+-- ---- one change alone
+
+-- it is all that the stage has
+pub only : (changes : List (Bor StagedChange)) (change : Bor StagedChange) → length changes ≡ 1 → change ≡ get_or changes 0 change → changes_in changes ≡ change_of change.now ∷ []
+only [] change one is = absurd (omega (arith, one))
+only (c ∷ []) change one is = ap (λ (x : Bor StagedChange). change_of x.now ∷ []) (sym is)
+only (c ∷ d ∷ changes) change one is = absurd (omega (arith, one))
+
+-- there is room for what it weighs
+pub light_alone : (held : List Entry) (stage : Stage) (c : ℕ × Option Entry) → stage ≡ c ∷ [] → against held ≡ None → total_weight (puts_of stage) ≤ most_weight
+    → total_weight held + found_weight c.1 < 2 ^ 64
+light_alone held stage c one within puts =
+    let own = ap (λ (s : Stage). total_weight (puts_of s)) one ∙ puts-cons c [] in
+    let light = (limits held (unopposed_within held within)).1 in
+    omega (arith, light, puts, own)
+
+-- what it leaves may be held, with the names that are noted then
+pub mapped_after : (held after : List Entry) (names : HeldNames) (stage : Stage) (c : ℕ × Option Entry) → stage ≡ c ∷ [] → ascends held ≡ true → exceeds_limits (effected held stage) ≡ false
+    → same_named (effected held stage) ≡ None → IsIndexOf names (effected held stage) → after ≡ put_or_dropped held c.0 c.1 → IsEntryMap after names
+mapped_after held after names stage c one up room apart index is =
+    let same : after ≡ effected held stage = is ∙ sym (ap (effected held) one) in
+    record {
+      held = after_held held after stage up (unopposed_apart (effected held stage) room apart) same;
+      index = subst (λ (es : List Entry). IsIndexOf names es) (sym same) index;
+    }

@@ -15,6 +15,7 @@ pub mod Phases
 pub mod Prefixes
 pub mod Rising
 pub mod Rooms
+pub mod Sent
 pub mod Stages
 pub mod Takings
 pub mod Turns

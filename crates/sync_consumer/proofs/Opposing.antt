@@ -40,3 +40,15 @@ unopposed entries held = by (exceeds_limits entries) (same_named entries) held
     by true pair h = absurd (cc)
     by false None h = refl
     by false (Some pair) h = absurd (cc)
+
+-- entries within the limits, no two of which have one name, pass none
+pub unopposed_apart : (entries : List Entry) → exceeds_limits entries ≡ false → same_named entries ≡ None → against entries ≡ None
+unopposed_apart entries few apart = ap (λ b. cond b (Some StageFull) (by_name (same_named entries))) few ∙ ap by_name apart
+
+-- entries that pass no limit are within them
+pub unopposed_within : (entries : List Entry) → against entries ≡ None → exceeds_limits entries ≡ false
+unopposed_within entries none = by (exceeds_limits entries) none
+  where
+    by : (b : Bool) → cond b (Some StageFull) (by_name (same_named entries)) ≡ None → b ≡ false
+    by true h = absurd (cc)
+    by false h = refl

@@ -1,6 +1,6 @@
 //! The entries that are held.
 
-ghost use Rattle.std.specs.Prelude.{◌≡◌, ◌==◌, ◌-◌, ◌++◌, [], true, false, None, length, map, option_map, IfOk, IfErr, IfSome, IfNone, OnOk, IsTrue};
+ghost use Rattle.std.specs.Prelude.{◌≡◌, ◌==◌, ◌-◌, ◌++◌, [], true, false, None, length, map, option_map, IfOk, IfErr, IfSome, IfNone, OnOk, OnErr, IsTrue};
 ghost use Rattle.std.specs.List.{slice_get};
 ghost use Rattle.std.specs.Option.{option_copied};
 ghost use Rattle.entry_tree.specs.State.{ascends, entry_at, exceeds_limits, same_named};
@@ -118,6 +118,58 @@ impl EntryMap {
 
     pub(crate) fn allocator(&self) -> Global {
         self.alloc
+    }
+
+    /// Brings the stage into effect, where a directory may have what it leaves. A refusal leaves the
+    /// entries as they were.
+    pub(crate) fn take_effect(&mut self, stage: &Stage) -> Result<(), Refusal>
+        ensures value { OnOk result (self.new ≡ effected self.old stage.now) }
+        ensures within { OnOk result (against (effected self.old stage.now) ≡ None) }
+        ensures fault { IfErr result (RefusesBy (against (effected self.old stage.now))) }
+        ensures err { OnErr result (self.new ≡ self.old) }
+    {
+        if self.take_one_change(stage)? {
+            return Ok(());
+        }
+        *self = self.with(stage)?;
+        Ok(())
+    }
+
+    /// Brings a stage of one change into effect where the entries stand. The answer is false, and
+    /// all is as before, where it has more changes or none, where it might leave too many entries
+    /// or too heavy ones, and where another entry has the name that it puts.
+    fn take_one_change(&mut self, stage: &Stage) -> Result<bool, NoMemory>
+        ensures made { IfOk result (λ made.
+            IsTrue made → self.new ≡ effected self.old stage.now) }
+        ensures within { IfOk result (λ made.
+            IsTrue made → against (effected self.old stage.now) ≡ None) }
+        ensures left { IfOk result (λ made. made ≡ false → self.new ≡ self.old) }
+        ensures err { OnErr result (self.new ≡ self.old) }
+    {
+        let changes = stage.list()?;
+        if changes.len() != 1 {
+            return Ok(false);
+        }
+        if !self.has_room(stage) {
+            return Ok(false);
+        }
+        let (names, has_unique_names) = names_after(&self.names, &self.entries, &changes)?;
+        if !has_unique_names {
+            return Ok(false);
+        }
+        self.entries.apply(changes[0])?;
+        self.names = names;
+        Ok(true)
+    }
+
+    /// Whether the entries and all that the stage puts are together no more and no heavier than a
+    /// directory may have.
+    fn has_room(&self, stage: &Stage) -> bool
+        ensures { IsTrue result → exceeds_limits (effected self.now stage.now) ≡ false }
+    {
+        let count = self.entries.len().saturating_add(stage.count());
+        let weight = self.entries.weight().saturating_add(stage.weight());
+        count <= MOST_ENTRIES && weight <= MOST_WEIGHT
     }
 
     /// These entries with the stage in effect, where a directory may have them. They are shared

@@ -59,10 +59,9 @@ impl HeldContent {
             (RefusesBy (against (model.effected self.old.entries stage.now))) }
         ensures err { OnErr result (self.new ≡ self.old) }
     {
-        let entries = self.entries.with(stage)?;
         let kept = copy_of(&cookie)?;
         let commit = Commit::of(self.entries.allocator(), stage, cookie)?;
-        self.entries = entries;
+        self.entries.take_effect(stage)?;
         if kept.is_some() {
             self.cookie = kept;
         }

@@ -19,10 +19,10 @@ use std::alloc::Global;
 use std::marker::Model;
 
 /// The most entries that are staged.
-pub(crate) const MOST_ENTRIES: usize = 20_000;
+pub(crate) const MOST_ENTRIES: usize = 200_000;
 
 /// The most that the staged entries weigh.
-pub(crate) const MOST_WEIGHT: u64 = 67_108_864;
+pub(crate) const MOST_WEIGHT: u64 = 268_435_456;
 
 /// What is staged of an identity: its entry, or that it has none.
 #[derive(Drop)]
@@ -111,6 +111,20 @@ impl Stage {
         ensures light { total_weight (puts_of self.now) ≤ most_weight }
     {
         self.changes.values()
+    }
+
+    /// How many entries are staged.
+    pub(crate) fn count(&self) -> usize
+        ensures { result ≡ length (puts_of self.now) }
+    {
+        self.load.count
+    }
+
+    /// What the staged entries weigh.
+    pub(crate) fn weight(&self) -> u64
+        ensures { result ≡ total_weight (puts_of self.now) }
+    {
+        self.load.weight
     }
 
     /// The entries that take effect where none are held, unless an identity is staged without one.

@@ -157,7 +157,7 @@ impl WeighedEntries {
     }
 
     /// Brings the change into effect.
-    fn apply(&mut self, change: &StagedChange) -> Result<(), NoMemory>
+    pub(crate) fn apply(&mut self, change: &StagedChange) -> Result<(), NoMemory>
         requires { total_weight self.old + found_weight (change_of change.now).1 < 2 ^ 64 }
         ensures ok { OnOk result (self.new
             ≡ put_or_dropped self.old (change_of change.now).0 (change_of change.now).1) }

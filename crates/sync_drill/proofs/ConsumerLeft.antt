@@ -1,5 +1,5 @@
 -- What is left of one consumer: all that its searches handed out was taken, and its copy is whole.
-use Rattle.std.proofs.Common.{◌≡◌, ◌≤◌, ◌<◌, ℕ, suc, List, [], ◌∷◌, ◌++◌, length, map, take, fold, take_all, refl, sym, ap, ◌∙◌, subst, arith, append_assoc, append-nil}
+use Rattle.std.proofs.Common.{◌≡◌, ◌≤◌, ◌<◌, ℕ, suc, List, [], ◌∷◌, ◌++◌, length, map, fold, refl, sym, ap, ◌∙◌, subst, arith, append_assoc, append-nil}
 use Rattle.std.specs.List.{All}
 use Rattle.std.proofs.lemmas.List.Sums.{fold-append}
 use Rattle.entry_tree.specs.Selection.{select}
@@ -8,21 +8,20 @@ use Rattle.directory_laws.specs.Accepted.{WereAccepted}
 use Rattle.directory_laws.specs.Law.{most_identities}
 use Rattle.directory_writes.specs.Directory.{DirectoryState, entries_of, fresh_directory, with_write}
 use Rattle.link_rings.specs.Ends.{offered}
-use Rattle.link_rings.specs.declared.ends.Consumer.{Consumer}
-use Rattle.link_rings.specs.declared.ends.Producer.{Producer}
+use Rattle.link_rings.specs.declared.ends.RingConsumer.{RingConsumer}
+use Rattle.link_rings.specs.declared.ends.RingProducer.{RingProducer}
 use Rattle.sync_consumer.specs.Taking.{ConsumerState}
+use Rattle.sync_provider.proofs.Journals.{writes_append}
 use Rattle.sync_provider.specs.Ports.{HasMet, HasSeenAllOf, Journal, PortState, writes_in}
-use Rattle.sync_provider.specs.declared.journal_note.JournalNote.{JournalNote}
 use Rattle.drill_plan.specs.Ending.{entries_after, followed_by, history, server}
 use Rattle.drill_plan.specs.Names.{suffix}
-use Rattle.sync_drill.specs.Delivered.{stream_at_once, delivered, encoded, search_id, IsMadeOf}
+use Rattle.sync_drill.specs.Delivered.{EndedSearch, delivered, encoded, search_id, IsMadeOf}
 use Rattle.sync_drill.specs.Followed.{HasFollowed}
 use Rattle.sync_drill.specs.Following.{IsSettled}
 use Rattle.sync_drill.specs.Going.{IsDrillPort}
 use Rattle.sync_drill.specs.Handing.{AreEnded, IsDone, IsResting}
 use Rattle.sync_drill.specs.Journals.{notes_of, operations_in}
 use Rattle.sync_drill.proofs.CopyMade.{made_whole}
-use Rattle.sync_drill.proofs.Going.{writes-append}
 use Rattle.sync_drill.proofs.Handings.{resting-later}
 use Rattle.sync_drill.proofs.JournalLeft.{folded-history, folded-suffix, port_writes}
 use Rattle.sync_drill.proofs.NoMore.{no_more_writes}
@@ -36,29 +35,42 @@ second_all Q (x ∷ xs) ys all = second_all Q xs ys (λ k d low. all (suc k) d (
 
 -- ---- a directory after more writes
 
--- what searches handed out that are over stays the same
-delivered_on : (writes : List Write) (d : DirectoryState) (notes : List JournalNote) → AreEnded d notes
-    → delivered (fold with_write d writes) notes ≡ delivered d notes
-delivered_on [] d notes ended = refl
-delivered_on (w ∷ writes) d notes ended = delivered_on writes (with_write d w) notes (still_ended d w notes ended) ∙ delivered_same d w notes ended
+-- searches that are over are so still
+ended_on : (writes : List Write) (d : DirectoryState) (searches : List EndedSearch) → AreEnded d searches
+    → AreEnded (fold with_write d writes) searches
+ended_on [] d searches ended = ended
+ended_on (w ∷ writes) d searches ended = ended_on writes (with_write d w) searches (still_ended d w searches ended)
+
+-- and what they handed out stays the same
+delivered_on : (writes : List Write) (d : DirectoryState) (searches : List EndedSearch) → AreEnded d searches
+    → delivered (fold with_write d writes) searches ≡ delivered d searches
+delivered_on [] d searches ended = refl
+delivered_on (w ∷ writes) d searches ended =
+    delivered_on writes (with_write d w) searches (still_ended d w searches ended) ∙ delivered_same d w searches ended
 
 module _ (number many : ℕ) (p seen : PortState) (its : IsDrillPort number many p) (first : IsDrillPort 1 many seen) (more : Journal)
     (begins : seen.journal ≡ p.journal ++ more) where
   directory_on : seen.directory ≡ fold with_write p.directory (writes_in more)
   directory_on =
       first.directory
-      ∙ ap (fold with_write (fresh_directory suffix server history)) (ap writes_in begins ∙ writes-append p.journal more)
+      ∙ ap (fold with_write (fresh_directory suffix server history)) (ap writes_in begins ∙ writes_append p.journal more)
       ∙ fold-append with_write (fresh_directory suffix server history) (writes_in p.journal) (writes_in more)
       ∙ ap (λ d. fold with_write d (writes_in more)) (sym its.directory)
 
-  -- what was handed out at a port is that by the whole journal
-  pub offered_on : (items : List (List ℕ)) → IsResting p items → notes_of p.number seen.journal ≡ notes_of p.number p.journal
-      → items ≡ map encoded (delivered seen.directory (notes_of p.number seen.journal))
-  offered_on items resting own =
-      resting.offered_is
-      ∙ ap (map encoded)
-      (sym (delivered_on (writes_in more) p.directory (notes_of p.number p.journal) resting.are_ended)
-      ∙ (λ i. delivered (sym directory_on i) (sym own i)))
+  module _ (items : List (List ℕ)) (resting : IsResting p items) where
+    -- the searches at a port that are over are so by the whole journal
+    pub ended_then : AreEnded seen.directory resting.searches
+    ended_then =
+        subst (λ d. AreEnded d resting.searches) (sym directory_on)
+        (ended_on (writes_in more) p.directory resting.searches resting.are_ended)
+
+    -- and what was handed out there is that by the whole journal
+    pub offered_on : items ≡ map encoded (delivered seen.directory resting.searches)
+    offered_on =
+        resting.offered_is
+        ∙ ap (map encoded)
+        (sym (delivered_on (writes_in more) p.directory resting.searches resting.are_ended)
+        ∙ ap (λ d. delivered d resting.searches) (sym directory_on))
 
 -- ---- a copy that had seen all writes
 
@@ -89,16 +101,11 @@ module _ (number many consumer : ℕ) (upto : PortState) (writes : List Write) (
       → copy.copy.held ≡ select (followed_by consumer) (entries_after writes)
   copy_whole search items copy done made =
       made_whole upto.directory its_accepted (subst (λ ws. length ws ≤ most_identities) (sym its_writes) few) consumer
-      done.handing.ended done.handing.busy done.handing.opening done.handing.asked done.handing.before items
+      done.handing.ended done.handing.busy done.handing.opening done.handing.asked done.handing.marks done.handing.handed done.handing.far items
       (done.handing.offered_is
-      ∙ ap (λ messages. map encoded (delivered upto.directory done.handing.ended ++ map (λ m. (search_id, m)) messages)) all)
+      ∙ ap (λ messages. map encoded (delivered upto.directory done.handing.ended ++ map (λ m. (search_id, m)) messages)) done.whole)
       copy.copy made
       ∙ ap (select (followed_by consumer)) its_entries
-    where
-      all : take done.handing.handed (stream_at_once upto.directory done.handing.opening) ≡ stream_at_once upto.directory done.handing.opening
-      all =
-          ap (λ n. take n (stream_at_once upto.directory done.handing.opening)) done.whole
-          ∙ take_all (length (stream_at_once upto.directory done.handing.opening)) (stream_at_once upto.directory done.handing.opening) (omega arith)
 
 -- ---- a consumer in the end
 
@@ -113,7 +120,7 @@ module _ (writers many : ℕ) (met seen : PortState) (first : IsDrillPort 1 many
       → writes_in upto.journal ≡ writes_in seen.journal
   all_writes number upto rest begins goes =
       sym
-      (ap writes_in goes ∙ writes-append upto.journal rest
+      (ap writes_in goes ∙ writes_append upto.journal rest
       ∙ ap (λ ws. writes_in upto.journal ++ ws) (no_more_writes writers many upto.journal rest whose same none)
       ∙ append-nil (writes_in upto.journal))
     where
@@ -130,7 +137,7 @@ module _ (writers many : ℕ) (met seen : PortState) (first : IsDrillPort 1 many
       none : (k : ℕ) → writers < k → k ≤ many → operations_in (notes_of k (upto.journal ++ rest)) ≡ []
       none k low high = ap (λ journal. operations_in (notes_of k journal)) (sym goes) ∙ silent k low high
 
-  module _ (number consumer : ℕ) (port new : PortState) (copy : ConsumerState) (producer : Producer) (end : Consumer)
+  module _ (number consumer : ℕ) (port new : PortState) (copy : ConsumerState) (producer : RingProducer) (end : RingConsumer)
       (settled : IsSettled consumer met port copy producer end) (its : IsDrillPort number many port) (before : IsDrillPort number many settled.upto)
       (shown : HasSeenAllOf seen port) (own : notes_of port.number seen.journal ≡ notes_of port.number port.journal) (meets : HasMet port seen new) where
     rest_is : seen.journal ≡ settled.upto.journal ++ (settled.goes_on.entries ++ shown.more)
@@ -146,9 +153,10 @@ module _ (writers many : ℕ) (met seen : PortState) (first : IsDrillPort 1 many
     pub has_followed : HasFollowed seen.directory seen.journal consumer new copy (record { producer = producer; consumer = end })
     has_followed = record {
       ring = settled.ring;
-      offered_is =
-          subst (λ n. offered producer ≡ map encoded (delivered seen.directory (notes_of n seen.journal))) (sym same_number)
-          (offered_on number many port seen its first shown.more shown.begins (offered producer) settled.resting own);
+      searches = settled.resting.searches;
+      own = ap (λ n. notes_of n seen.journal) same_number ∙ own ∙ settled.resting.own;
+      are_ended = ended_then number many port seen its first shown.more shown.begins (offered producer) settled.resting;
+      offered_is = offered_on number many port seen its first shown.more shown.begins (offered producer) settled.resting;
       taken_is = settled.taken_is;
       made = settled.copied.made;
       entries =

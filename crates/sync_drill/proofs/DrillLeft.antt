@@ -115,8 +115,8 @@ module _ {P H : Type 0} (home : P → H) (state : P → PortState) (writers many
       silent_each place (f ∷ ups) (x ∷ new) each shown = (
         ap (λ n. operations_in (notes_of n seen.journal)) (sym each.0.port_is.its_number)
             ∙ ap operations_in shown.0.own
-            ∙ ended_no_operations (state f.handing.port).directory (notes_of (state f.handing.port).number (state f.handing.port).journal)
-            each.0.settled.resting.are_ended,
+            ∙ ap operations_in each.0.settled.resting.own
+            ∙ ended_no_operations each.0.settled.resting.searches,
         silent_each (suc place) ups new each.1 shown.1,
       )
 

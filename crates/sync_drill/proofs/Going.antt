@@ -4,17 +4,13 @@ use Rattle.std.specs.List.{All}
 use Rattle.std.proofs.lemmas.List.Elements.{All-cons, All-nil, All-append, All-weaker}
 use Rattle.std.proofs.lemmas.List.Sums.{fold-append}
 use Rattle.directory_writes.specs.Directory.{fresh_directory, with_write}
-use Rattle.sync_provider.specs.Ports.{Journal, PortState, write_in, writes_in, noted, noted_all, IsLater}
+use Rattle.sync_provider.proofs.Journals.{writes_append}
+use Rattle.sync_provider.specs.Ports.{Journal, PortState, writes_in, noted, noted_all, IsLater}
 use Rattle.sync_provider.specs.declared.journal_note.JournalNote.{JournalNote}
 use Rattle.sync_provider.specs.declared.journal_note.JournalNote.TheVariants.{Wrote, Opened, Closed}
 use Rattle.drill_plan.specs.Ending.{history, server}
 use Rattle.drill_plan.specs.Names.{suffix}
 use Rattle.sync_drill.specs.Going.{HasGoneOn, IsDrillPort}
-
--- the writes of two journals in a row
-pub writes-append : (one other : Journal) → writes_in (one ++ other) ≡ writes_in one ++ writes_in other
-writes-append [] other = refl
-writes-append (e ∷ one) other = ap (λ rest. write_in e.0 ++ rest) (writes-append one other) ∙ sym (append_assoc (write_in e.0) (writes_in one) (writes_in other))
 
 -- whose entry one is that came in at a port: its own, or that of another port
 abbrev pub IsOfAPort : (number ports : ℕ) → JournalNote × ℕ → Type 0
@@ -47,7 +43,7 @@ goes-twice old mid new first second = record {
   directory = second.directory
       ∙ ap (λ d. fold with_write d (writes_in second.entries)) first.directory
       ∙ sym (fold-append with_write old.directory (writes_in first.entries) (writes_in second.entries))
-      ∙ ap (fold with_write old.directory) (sym (writes-append first.entries second.entries));
+      ∙ ap (fold with_write old.directory) (sym (writes_append first.entries second.entries));
   by = All-append (IsOfAPort old.number old.ports) first.entries second.entries first.by
       (subst (λ n. All (IsOfAPort n old.ports) second.entries) first.number
       (subst (λ ports. All (IsOfAPort mid.number ports) second.entries) first.ports second.by));
@@ -123,7 +119,7 @@ port-goes number ports old new drill gone = record {
       ∙ ap (λ d. fold with_write d (writes_in gone.entries)) drill.directory
       ∙ sym (fold-append with_write (fresh_directory suffix server history) (writes_in old.journal) (writes_in gone.entries))
       ∙ ap (fold with_write (fresh_directory suffix server history))
-      (sym (writes-append old.journal gone.entries) ∙ ap writes_in (sym gone.journal));
+      (sym (writes_append old.journal gone.entries) ∙ ap writes_in (sym gone.journal));
   by = subst (All (λ e. (1 ≤ e.1) × (e.1 ≤ ports))) (sym gone.journal)
       (All-append (λ e. (1 ≤ e.1) × (e.1 ≤ ports)) old.journal gone.entries drill.by
       (All-weaker (IsOfAPort number ports) (λ e. (1 ≤ e.1) × (e.1 ≤ ports))

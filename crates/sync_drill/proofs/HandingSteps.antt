@@ -4,21 +4,21 @@ use Rattle.sync_provider.specs.Ports.{PortState}
 use Rattle.sync_drill.specs.Handing.{IsHanding, MayOpen}
 use Rattle.sync_drill.specs.Halves.{HandingGoes, HandsOut}
 use Rattle.sync_drill.specs.declared.handing_out.HandingOut.{HandingOut}
-use Rattle.sync_drill.specs.declared.handing_out.Step.{Step}
-use Rattle.sync_drill.specs.declared.handing_out.Step.TheVariants as steps
+use Rattle.sync_drill.specs.declared.handing_out.HandingOutcome.{HandingOutcome}
+use Rattle.sync_drill.specs.declared.handing_out.HandingOutcome.TheVariants as steps
 use Rattle.sync_drill.proofs.Going.{goes-twice, stays}
 use Rattle.sync_drill.proofs.Rings.{producer-twice, same-producer}
 
 -- a step that was made or that waits has not failed
-pub offered_fine : (step : Step) → step ≡ steps.Offered → step ≢ steps.Failed
+pub offered_fine : (step : HandingOutcome) → step ≡ steps.Offered → step ≢ steps.Failed
 offered_fine step is = λ failed. cc
 
 -- so has one for which the ring is full
-pub full_fine : (step : Step) → step ≡ steps.Full → step ≢ steps.Failed
+pub full_fine : (step : HandingOutcome) → step ≡ steps.Full → step ≢ steps.Failed
 full_fine step is = λ failed. cc
 
 -- and one for which nothing is pending
-pub nothing_fine : (step : Step) → step ≡ steps.Nothing → step ≢ steps.Failed
+pub nothing_fine : (step : HandingOutcome) → step ≡ steps.Nothing → step ≢ steps.Failed
 nothing_fine step is = λ failed. cc
 
 -- of equal values

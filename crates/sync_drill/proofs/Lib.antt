@@ -18,7 +18,6 @@ pub mod SearchTaken
 pub mod CopyMade
 pub mod SearchesGo
 pub mod Streams
-pub mod AtOnce
 pub mod Handings
 pub mod Turns
 pub mod Openings

@@ -3,25 +3,19 @@ use Rattle.std.proofs.Common.{◌≡◌, ◌≤◌, ◌<◌, ◌==◌, leb, ℕ,
 use Rattle.std.specs.List.{All}
 use Rattle.std.proofs.lemmas.Bool.{leb-false, leb-true}
 use Rattle.std.proofs.lemmas.List.{nil_from_length}
-use Rattle.directory_writes.specs.Directory.{DirectoryState}
 use Rattle.sync_provider.specs.Ports.{Journal, write_in, writes_in}
 use Rattle.sync_provider.specs.declared.journal_note.JournalNote.{JournalNote}
 use Rattle.sync_provider.specs.declared.journal_note.JournalNote.TheVariants.{Wrote, Opened, Closed}
-use Rattle.sync_drill.specs.Handing.{AreEnded}
+use Rattle.sync_drill.specs.Delivered.{EndedSearch, notes_in}
 use Rattle.sync_drill.specs.Journals.{notes_of, operations_in}
 use Rattle.sync_drill.proofs.Lists.{nil-cons}
 use Rattle.sync_drill.proofs.Notes.{is_itself, notes-append}
 use Rattle.sync_drill.proofs.Writes.{operations-append}
 
--- searches that are over are no operations
-pub ended_no_operations : (d : DirectoryState) (notes : List JournalNote) → AreEnded d notes → operations_in notes ≡ []
-ended_no_operations d [] ended = refl
-ended_no_operations d (Opened opening ∷ Closed end ∷ notes) ended = ended_no_operations d notes ended.3
-ended_no_operations d (Opened opening ∷ Opened other ∷ notes) ended = absurd ended
-ended_no_operations d (Opened opening ∷ Wrote write ∷ notes) ended = absurd ended
-ended_no_operations d (Opened opening ∷ []) ended = absurd ended
-ended_no_operations d (Closed end ∷ notes) ended = absurd ended
-ended_no_operations d (Wrote write ∷ notes) ended = absurd ended
+-- searches are no operations
+pub ended_no_operations : (searches : List EndedSearch) → operations_in (notes_in searches) ≡ []
+ended_no_operations [] = refl
+ended_no_operations (search ∷ searches) = ended_no_operations searches
 
 second_none : {X : Type 0} (xs ys : List X) → xs ++ ys ≡ xs → ys ≡ []
 second_none xs ys same = nil_from_length ys (omega (arith, ap length same, length-append xs ys))

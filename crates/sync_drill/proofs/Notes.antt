@@ -3,6 +3,7 @@ use Rattle.std.proofs.Common.{◌≡◌, ◌≢◌, ℕ, zero, suc, ◌==◌, tr
 use Rattle.std.specs.List.{All}
 use Rattle.std.proofs.lemmas.Bool.{eq-eqb, ne_eqb}
 use Rattle.std.proofs.lemmas.List.{nil_from_length}
+use Rattle.sync_provider.proofs.Journals.{noted_journal}
 use Rattle.sync_provider.specs.Ports.{Journal, PortState, noted, noted_all, IsLater, HasMet}
 use Rattle.sync_provider.specs.declared.journal_note.JournalNote.{JournalNote}
 use Rattle.sync_provider.specs.declared.journal_note.JournalNote.TheVariants.{Wrote, Opened, Closed}
@@ -54,13 +55,7 @@ between number low more later same =
 
 -- ---- ports
 
--- a port that notes an entry has it last in its journal
-pub noted-journal : (p : PortState) (note : JournalNote) (by : ℕ) → (noted p note by).journal ≡ p.journal ++ (note, by) ∷ []
-noted-journal p (Wrote write) by = refl
-noted-journal p (Opened opening) by = refl
-noted-journal p (Closed end) by = refl
-
--- it keeps its number
+-- a port that notes an entry keeps its number
 pub noted-number : (p : PortState) (note : JournalNote) (by : ℕ) → (noted p note by).number ≡ p.number
 noted-number p (Wrote write) by = refl
 noted-number p (Opened opening) by = refl
@@ -71,7 +66,7 @@ pub noted_all-journal : (p : PortState) (entries : Journal) → (noted_all p ent
 noted_all-journal p [] = sym (append-nil p.journal)
 noted_all-journal p (e ∷ entries) =
     noted_all-journal (noted p e.0 e.1) entries
-    ∙ ap (λ journal. journal ++ entries) (noted-journal p e.0 e.1)
+    ∙ ap (λ journal. journal ++ entries) (noted_journal p e.0 e.1)
     ∙ append_assoc p.journal (e ∷ []) entries
 
 -- the port keeps its number
@@ -120,7 +115,7 @@ goes-on first old new more begins later = (
 pub others_notes : (p : PortState) (note : JournalNote) (by : ℕ) → by ≢ p.number
     → notes_of p.number (noted p note by).journal ≡ notes_of p.number p.journal
 others_notes p note by other =
-    ap (notes_of p.number) (noted-journal p note by)
+    ap (notes_of p.number) (noted_journal p note by)
     ∙ notes-append p.number p.journal ((note, by) ∷ [])
     ∙ ap (λ b. notes_of p.number p.journal ++ (if b then note ∷ [] else [])) (is_another by p.number other)
     ∙ append-nil (notes_of p.number p.journal)

@@ -1,5 +1,5 @@
 -- A message of a search is read from its encoding as what it is, and a copy takes it as that.
-use Rattle.std.proofs.Common.{◌≡◌, ◌<◌, ◌≤◌, ◌^◌, ℕ, Bool, true, false, cond, Option, List, [], ◌∷◌, ◌++◌, length, append-nil, Some, None, Ok, refl, ap, sym, ◌∙◌, arith, inr}
+use Rattle.std.proofs.Common.{◌≡◌, ◌<◌, ◌≤◌, ◌^◌, ℕ, Bool, true, false, cond, Option, List, [], ◌∷◌, ◌++◌, length, append-nil, Some, None, Ok, refl, ap, sym, ◌∙◌, arith, subst, inr}
 use Rattle.std.specs.Prelude.{All, pos, ◌==◌, if◌then◌else◌, ◌||◌, not}
 use Rattle.std.specs.Ordering.{int_eq}
 use Rattle.std.proofs.lemmas.List.Elements.{All-nil, All-cons}
@@ -17,7 +17,7 @@ use Rattle.ldap_messages.specs.Operation.{IsHeld}
 use Rattle.ldap_messages.specs.Whole.{MessageValue, message_value, message_octets, HasSpelling}
 use Rattle.ldap_messages.proofs.MessageSpellings.{message_read_again}
 use Rattle.sync_model.specs.Copy as model
-use Rattle.sync_model.specs.Copy.{Copy, SyncSession, Fault as fault}
+use Rattle.sync_model.specs.Copy.{Copy, SyncSession, Answer, Fault as fault}
 use Rattle.sync_model.specs.Message.{SyncMessage, phase_end}
 use Rattle.sync_model.specs.Message.SyncMessage.{AddOrModify, Delete, IdSet, RefreshDelete, RefreshPresent, Done}
 use Rattle.sync_model.specs.Within.{taken_within, limit_fault, refused_by}
@@ -30,11 +30,12 @@ use Rattle.sync_wire.specs.Sending as wire
 use Rattle.sync_wire.proofs.Lengths.{put_size, set_size, phase_size, done_size, busy_size}
 use Rattle.sync_wire.proofs.Notified.{sent_round_trip}
 use Rattle.sync_wire.proofs.OfSearch.{IsOfSearch, end_with, of_each, gone_short, short_text}
-use Rattle.sync_consumer.specs.Taking.{taken_of, taken_by, taken_as, without_search}
+use Rattle.sync_consumer.specs.Taking.{answer_taken, taken_of, taken_by, taken_as, without_search}
+use Rattle.sync_consumer.specs.declared.consumer.Taken.{Taken}
 use Rattle.sync_consumer.specs.declared.consumer.Taken.TheVariants.{Fault}
 use Rattle.sync_consumer.specs.declared.fault.PeerFault.TheVariants as peer
 use Rattle.sync_provider.specs.Search.{busy_end}
-use Rattle.sync_drill.specs.Delivered.{IsReadFrom, encoded}
+use Rattle.sync_drill.specs.Delivered.{IsReadFrom, WasTaken, encoded}
 
 -- ---- what is read
 
@@ -112,15 +113,27 @@ module _ (persisting : Bool) where
 -- ---- what a copy makes of it
 
 -- a copy with a search of the message ID 1 takes a message of a search as what it is
-pub takes_sent : (copy : Copy) (session : SyncSession) (m : SyncMessage) (taken : Message) → copy.session ≡ Some session → session.id ≡ 1 → IsOfSearch m
-    → message_value taken ≡ wire.sent 1 m → (taken_of copy taken).0 ≡ (taken_within 1 copy m).0
-takes_sent copy session m taken runs one is same =
-    ap (λ found. (taken_by found copy taken).0) runs
-    ∙ (λ i. (if id i == one i then taken_as (tag_of taken.op) (id i) copy (said session.persisting taken) else (without_search copy, Fault (peer.OutOfPlace (tag_of taken.op)))).0)
-    ∙ ap (λ s. (taken_as (tag_of taken.op) 1 copy s).0) (sent_round_trip session.persisting 1 m taken (can_be_decoded session.persisting m is) same)
+takes_as : (copy : Copy) (session : SyncSession) (m : SyncMessage) (taken : Message) → copy.session ≡ Some session → session.id ≡ 1 → IsOfSearch m
+    → message_value taken ≡ wire.sent 1 m → taken_of copy taken ≡ ((taken_within 1 copy m).0, answer_taken (tag_of taken.op) (taken_within 1 copy m).1)
+takes_as copy session m taken runs one is same =
+    ap (λ found. taken_by found copy taken) runs
+    ∙ (λ i. if id i == one i then taken_as (tag_of taken.op) (id i) copy (said session.persisting taken) else (without_search copy, Fault (peer.OutOfPlace (tag_of taken.op))))
+    ∙ ap (λ s. taken_as (tag_of taken.op) 1 copy s) (sent_round_trip session.persisting 1 m taken (can_be_decoded session.persisting m is) same)
   where
     id : taken.id ≡ 1
     id = ap (λ (w : MessageValue). w.0) same
+
+pub takes_sent : (copy : Copy) (session : SyncSession) (m : SyncMessage) (taken : Message) → copy.session ≡ Some session → session.id ≡ 1 → IsOfSearch m
+    → message_value taken ≡ wire.sent 1 m → (taken_of copy taken).0 ≡ (taken_within 1 copy m).0
+takes_sent copy session m taken runs one is same = ap (λ (o : Copy × Taken). o.0) (takes_as copy session m taken runs one is same)
+
+-- a message that is refused is not taken
+pub never_taken : (copy : Copy) (session : SyncSession) (m : SyncMessage) (taken : Message) (fault' : model.Fault) → copy.session ≡ Some session → session.id ≡ 1 → IsOfSearch m
+    → message_value taken ≡ wire.sent 1 m → taken_within 1 copy m ≡ model.refused copy fault' → WasTaken (taken_of copy taken).1 → ⊥
+never_taken copy session m taken fault' runs one is same refused =
+    subst (λ (t : Taken). WasTaken t → ⊥)
+    (sym (ap (λ (o : Copy × Taken). o.1) (takes_as copy session m taken runs one is same) ∙ ap (λ (o : Copy × Answer). answer_taken (tag_of taken.op) o.1) refused))
+    (λ was. was)
 
 -- the end with the code busy is a message of a search
 pub busy_is_of_search : IsOfSearch busy_end

@@ -1,168 +1,208 @@
--- What a port's searches handed out stays the same as its directory has more writes.
-use Rattle.std.proofs.Common.{◌≡◌, ℕ, zero, suc, ◌+◌, ◌-◌, ◌≤◌, cond, List, [], ◌∷◌, ◌++◌, map, take, length, Option, Some, None, refl, sym, ap, ◌∙◌, arith, length-append, append_assoc, append-nil}
-use Rattle.std.proofs.lemmas.List.{take-append-le}
+-- A search of a port: what it handed out stays the same as its directory has more writes, and one message more is handed out.
+use Rattle.std.proofs.Common.{◌≡◌, ℕ, ◌+◌, ◌-◌, ◌≤◌, List, [], ◌∷◌, ◌++◌, map, take, drop, length, Option, Some, None, refl, sym, ap, ◌∙◌, subst, inl, arith, append_assoc, append-nil, length-append}
+use Rattle.std.proofs.lemmas.List.{take_all, take_at, drop_at}
 use Rattle.entry_tree.specs.declared.op.Write.{Write}
+use Rattle.sync_model.specs.Law.{IsCut}
 use Rattle.sync_model.specs.Message.{SyncMessage}
-use Rattle.sync_model.specs.Stream.{SyncOperation, group, later}
+use Rattle.sync_model.specs.Stream.{RefreshPiece, walk, last_mark}
+use Rattle.sync_slices.specs.Law.{IsAt}
+use Rattle.sync_slices.specs.Slices.{SlicedRefresh, pieces_of, left_of, rest_piece, all_pieces, marks_then, first_progress}
+use Rattle.sync_slices.proofs.Beginnings.{marks_written}
+use Rattle.sync_slices.proofs.Cutting.{last_mark-push}
+use Rattle.sync_slices.proofs.Deciding.{marks_next}
+use Rattle.sync_slices.proofs.HandingOut.{marks_handed}
 use Rattle.directory_writes.specs.Directory.{DirectoryState, with_write}
-use Rattle.sync_provider.specs.Opened.{SearchOpening}
-use Rattle.sync_provider.specs.Search.{busy_end, session_of, refresh_from}
-use Rattle.sync_provider.specs.declared.journal_note.ClosedSearch.{ClosedSearch}
+use Rattle.sync_provider.specs.Opened.{SearchOpening, sliced_of}
+use Rattle.sync_provider.specs.Search.{SearchState, busy_end, sliced, pending, advanced}
 use Rattle.sync_provider.specs.declared.journal_note.JournalNote.{JournalNote}
-use Rattle.sync_provider.specs.declared.journal_note.JournalNote.TheVariants.{Wrote, Opened, Closed}
-use Rattle.sync_provider.proofs.Decided.{stream_more}
-use Rattle.sync_provider.proofs.Refreshes.{refresh-longer, group-longer}
-use Rattle.sync_drill.specs.Delivered.{stream_at_once, handed_of, handed_by, delivered}
-use Rattle.sync_drill.specs.Handing.{AreEnded, AllEndBusy, EndsBusy, count_of}
+use Rattle.sync_provider.specs.declared.journal_note.JournalNote.TheVariants.{Opened, Closed}
+use Rattle.sync_provider.proofs.Places.{begins_with_own, written_place, opening_place}
+use Rattle.sync_provider.proofs.SearchNotified.{progress_then}
+use Rattle.sync_provider.proofs.Streams.{HasHanded, advanced_has, stands_cut, stands_shows}
+use Rattle.sync_drill.specs.Delivered.{stream_at, handed_of, EndedSearch, notes_in, handed_by, delivered}
+use Rattle.sync_drill.specs.Handing.{search_with, IsSoFar, IsEnded, AreEnded, EndsBusy, AllEndBusy, count_of}
 
--- ---- one search over one write more
+-- ---- one search
 
-module _ (d : DirectoryState) (w : Write) (o : SearchOpening) where
-  abbrev old : SyncOperation
-  old = session_of o.persists d.sid d.history o.spec d.writes
+-- at its acceptance nothing was handed out
+far_at_first : (d : DirectoryState) (o : SearchOpening) → IsSoFar d (record o { accepted = length d.writes }) (length d.writes ∷ []) []
+far_at_first d o = record {
+  progress = first_progress r;
+  marks_are = marks_next r (length d.writes) (record { marks = []; left = walk r.operation r.start r.accepted; names = []; changed = []; rest = []; due = [] });
+  placed = record { handed = []; handed_later = []; place = opening_place d o.id o.spec o.start o.persists };
+  all = refl;
+}
+  where
+    r : SlicedRefresh
+    r = sliced_of d (record o { accepted = length d.writes })
 
-  abbrev new : SyncOperation
-  new = session_of o.persists d.sid d.history o.spec (d.writes ++ w ∷ [])
+-- so of a search that is opened after the writes of a directory
+pub far_first : (d : DirectoryState) (o : SearchOpening) → o.accepted ≡ length d.writes → IsSoFar d o (o.accepted ∷ []) []
+far_first d o same = subst (λ n. IsSoFar d (record o { accepted = n }) (n ∷ []) []) (sym same) (far_at_first d o)
 
-  later_same : (count : ℕ) → o.accepted + count ≤ length d.writes → later new o.accepted count ≡ later old o.accepted count
-  later_same zero low = refl
-  later_same (suc count) low =
-      let prefix : later new o.accepted count ≡ later old o.accepted count = later_same count (omega (arith, low)) in
-      let last : group new (o.accepted + count) ≡ group old (o.accepted + count) =
-      group-longer o.persists d.sid d.history o.spec d.writes (w ∷ []) (d.writes ++ w ∷ []) (o.accepted + count) refl (omega (arith, low)) in
-      λ i. prefix i ++ last i
+module _ (d : DirectoryState) (o : SearchOpening) (marks : List ℕ) (handed : List SyncMessage) (far : IsSoFar d o marks handed) where
+  abbrev s : SearchState
+  s = search_with o far.progress
 
-  -- what the write sends
-  abbrev pub more : List SyncMessage
-  more = cond o.persists (group new (length d.writes)) []
+  has : HasHanded d s handed
+  has = record { placed = far.placed; all = far.all }
 
-  -- a write adds messages at the end alone
-  pub stream_grows : o.accepted ≤ length d.writes → stream_at_once (with_write d w) o ≡ stream_at_once d o ++ more
-  stream_grows low =
-      let count : ℕ = length d.writes - o.accepted in
-      let one_more : length (d.writes ++ w ∷ []) - o.accepted ≡ suc count = omega (arith, length-append d.writes (w ∷ []), low) in
-      let here : o.accepted + count ≡ length d.writes = omega (arith, low) in
-      let first : refresh_from new o.start o.accepted ≡ refresh_from old o.start o.accepted =
-      refresh-longer o.persists d.sid d.history o.spec o.start d.writes (w ∷ []) (d.writes ++ w ∷ []) o.accepted refl low in
-      let second : later new o.accepted count ≡ later old o.accepted count = later_same count (omega (arith, low)) in
-      ap (λ n. refresh_from new o.start o.accepted ++ cond o.persists (later new o.accepted n) []) one_more
-      ∙ stream_more new o.start o.accepted count
-      ∙ (λ i. (first i ++ cond o.persists (second i) []) ++ cond o.persists (group new (here i)) [])
+  -- its pieces, with what is left of its walk as one more, cut the walk
+  pub far_cut : IsCut (sliced_of d o).operation o.start o.accepted (all_pieces (sliced_of d o) marks (length d.writes))
+  far_cut =
+      subst (λ found. IsCut (sliced_of d o).operation o.start o.accepted (all_pieces (sliced_of d o) found (length d.writes))) far.marks_are
+      (stands_cut d s handed d.writes (begins_with_own d) (inl (refl, has)))
 
-  -- n messages at its start are the same, and there are no fewer
-  pub taken_same : (count : ℕ) → o.accepted ≤ length d.writes → count ≤ length (stream_at_once d o)
-      → take count (stream_at_once (with_write d w) o) ≡ take count (stream_at_once d o)
-  taken_same count low within = ap (take count) (stream_grows low) ∙ take-append-le count (stream_at_once d o) more within
+  at : IsAt (sliced_of d o) (length d.writes) far.progress far.placed.handed far.placed.handed_later
+  at = far.placed.place d.writes (begins_with_own d)
 
-  -- as many messages are there still
-  pub still_within : (count : ℕ) → o.accepted ≤ length d.writes → count ≤ length (stream_at_once d o)
-      → count ≤ length (stream_at_once (with_write d w) o)
-  still_within count low within =
-      omega (arith, within, ap length (stream_grows low), length-append (stream_at_once d o) more)
+  -- there were no fewer writes at its acceptance
+  pub far_low : o.accepted ≤ length d.writes
+  far_low = at.marked.low
 
-  -- what it handed out until it was over
-  pub handed_same : (end : ClosedSearch) → o.accepted ≤ length d.writes → count_of end.over end.handed ≤ length (stream_at_once d o)
-      → handed_by (with_write d w) o end ≡ handed_by d o end
-  handed_same end low within = ap (map (λ message. (o.id, message))) (by end.over refl)
+  -- and the last of its pieces is not decided later
+  pub far_last : last_mark o.accepted (all_pieces (sliced_of d o) marks (length d.writes)) ≤ length d.writes
+  far_last =
+      subst (λ found. last_mark o.accepted (all_pieces (sliced_of d o) found (length d.writes)) ≤ length d.writes) far.marks_are (low (left_of (sliced_of d o) far.progress.marks))
     where
-      by : (over : Option ℕ) → end.over ≡ over
-          → handed_of over end.handed (stream_at_once (with_write d w) o) ≡ handed_of over end.handed (stream_at_once d o)
-      by None is = taken_same end.handed low (omega (arith, within, ap (λ over. count_of over end.handed) is))
-      by (Some before) is =
-          ap (λ messages. messages ++ take (end.handed - before) (busy_end ∷ []))
-          (taken_same before low (omega (arith, within, ap (λ over. count_of over end.handed) is)))
+      decided : List RefreshPiece
+      decided = pieces_of (sliced_of d o) far.progress.marks
 
--- a write is one more
-pub one_write : (d : DirectoryState) (w : Write) (n : ℕ) → n ≤ length d.writes → n ≤ length (with_write d w).writes
-one_write d w n low = omega (arith, low, length-append d.writes (w ∷ []))
+      low : (left : List ℕ) → last_mark o.accepted (decided ++ rest_piece (length d.writes) left) ≤ length d.writes
+      low [] =
+          let same : last_mark o.accepted (decided ++ []) ≡ last_mark o.accepted decided = ap (last_mark o.accepted) (append-nil decided) in
+          omega (arith, same, at.marked.last)
+      low (u ∷ us) =
+          let same : last_mark o.accepted (decided ++ record { uuids = u ∷ us; mark = length d.writes } ∷ []) ≡ length d.writes =
+          last_mark-push decided o.accepted (record { uuids = u ∷ us; mark = length d.writes })
+          in
+          omega (arith, same)
+
+  -- its Stream begins with what was handed out
+  shows : handed ++ pending d s ≡ stream_at d o marks
+  shows = stands_shows d s handed d.writes (begins_with_own d) (inl (refl, has)) ∙ ap (stream_at d o) far.marks_are
+
+  -- as many of its messages are these
+  pub far_taken : take (length handed) (stream_at d o marks) ≡ handed
+  far_taken = ap (take (length handed)) (sym shows) ∙ take_at handed (pending d s) (length handed) refl
+
+  left_is : drop (length handed) (stream_at d o marks) ≡ pending d s
+  left_is = ap (drop (length handed)) (sym shows) ∙ drop_at handed (pending d s) (length handed) refl
+
+  -- where nothing is left of it, it is what was handed out
+  pub far_whole : drop (length handed) (stream_at d o marks) ≡ [] → handed ≡ stream_at d o marks
+  far_whole none = sym (append-nil handed) ∙ ap (λ ms. handed ++ ms) (sym none ∙ left_is) ∙ shows
+
+  -- and with what follows them they are its Stream
+  pub far_prefix : handed ++ drop (length handed) (stream_at d o marks) ≡ stream_at d o marks
+  far_prefix = ap (λ ms. handed ++ ms) left_is ∙ shows
+
+  -- so it is after a write
+  pub far_grows : (w : Write) → IsSoFar (with_write d w) o marks handed
+  far_grows w = record {
+    progress = progress_then 0 d w s;
+    marks_are = marks_written (sliced (with_write d w) s) (length d.writes) far.progress ∙ far.marks_are;
+    placed = record { handed = far.placed.handed; handed_later = far.placed.handed_later; place = written_place 0 d w s far.placed.handed far.placed.handed_later far.placed.place };
+    all = far.all;
+  }
+
+  -- one message more is handed out
+  pub far_next : (m : SyncMessage) (rest : List SyncMessage) → drop (length handed) (stream_at d o marks) ≡ m ∷ rest
+      → IsSoFar d o (marks_then (sliced_of d o) (length handed) (length d.writes) marks) (handed ++ m ∷ [])
+  far_next m rest some = record {
+    progress = (advanced d s).progress;
+    marks_are =
+        marks_handed (sliced d s) (length d.writes) far.progress far.placed.handed far.placed.handed_later (length handed) at
+        (ap length (sym far.all) ∙ length-append far.placed.handed far.placed.handed_later)
+        ∙ ap (marks_then (sliced_of d o) (length handed) (length d.writes)) far.marks_are;
+    placed = next.placed;
+    all = next.all;
+  }
+    where
+      next : HasHanded d (advanced d s) (handed ++ m ∷ [])
+      next = advanced_has d s handed m rest refl (sym left_is ∙ some) has
+
+-- ---- one that is over
+
+-- it is over still
+pub ended_grows : (d : DirectoryState) (w : Write) (search : EndedSearch) → IsEnded d search → IsEnded (with_write d w) search
+ended_grows d w search ended = record {
+  number = ended.number;
+  handed = ended.handed;
+  far = far_grows d search.opening search.marks ended.handed ended.far w;
+  counted = ended.counted;
+}
+
+-- as many of its messages as it handed out are those that it did
+pub handed_are : (d : DirectoryState) (search : EndedSearch) (ended : IsEnded d search)
+    → handed_of search.end.over search.end.handed (stream_at d search.opening search.marks) ≡ handed_of search.end.over search.end.handed ended.handed
+handed_are d search ended = by search.end.over refl
+  where
+    stream : List SyncMessage
+    stream = stream_at d search.opening search.marks
+
+    same : (count : ℕ) → length ended.handed ≡ count → take count stream ≡ take count ended.handed
+    same count is =
+        ap (λ n. take n stream) (sym is)
+        ∙ far_taken d search.opening search.marks ended.handed ended.far
+        ∙ sym (take_all (length ended.handed) ended.handed (omega arith))
+        ∙ ap (λ n. take n ended.handed) is
+
+    by : (over : Option ℕ) → search.end.over ≡ over → handed_of over search.end.handed stream ≡ handed_of over search.end.handed ended.handed
+    by None is = same search.end.handed (ended.counted ∙ ap (λ over. count_of over search.end.handed) is)
+    by (Some before) is =
+        ap (λ messages. messages ++ take (search.end.handed - before) (busy_end ∷ []))
+        (same before (ended.counted ∙ ap (λ over. count_of over search.end.handed) is))
+
+handed_same : (d : DirectoryState) (w : Write) (search : EndedSearch) → IsEnded d search → handed_by (with_write d w) search ≡ handed_by d search
+unfolding ended_grows
+handed_same d w search ended =
+    ap (map (λ message. (search.opening.id, message)))
+    (handed_are (with_write d w) search (ended_grows d w search ended) ∙ sym (handed_are d search ended))
 
 -- ---- searches that are over
 
 -- searches that are over are so still
-pub still_ended : (d : DirectoryState) (w : Write) (notes : List JournalNote) → AreEnded d notes → AreEnded (with_write d w) notes
+pub still_ended : (d : DirectoryState) (w : Write) (searches : List EndedSearch) → AreEnded d searches → AreEnded (with_write d w) searches
 still_ended d w [] ended = tt
-still_ended d w (Opened opening ∷ Closed end ∷ notes) ended = (
-  ended.0,
-  one_write d w opening.accepted ended.1,
-  still_within d w opening (count_of end.over end.handed) ended.1 ended.2,
-  still_ended d w notes ended.3,
-)
-still_ended d w (Opened opening ∷ Opened other ∷ notes) ended = absurd ended
-still_ended d w (Opened opening ∷ Wrote write ∷ notes) ended = absurd ended
-still_ended d w (Opened opening ∷ []) ended = absurd ended
-still_ended d w (Closed end ∷ notes) ended = absurd ended
-still_ended d w (Wrote write ∷ notes) ended = absurd ended
+still_ended d w (search ∷ searches) ended = (ended_grows d w search ended.0, still_ended d w searches ended.1)
 
 -- what they handed out stays the same
-pub delivered_same : (d : DirectoryState) (w : Write) (notes : List JournalNote) → AreEnded d notes
-    → delivered (with_write d w) notes ≡ delivered d notes
+pub delivered_same : (d : DirectoryState) (w : Write) (searches : List EndedSearch) → AreEnded d searches → delivered (with_write d w) searches ≡ delivered d searches
 delivered_same d w [] ended = refl
-delivered_same d w (Opened opening ∷ Closed end ∷ notes) ended =
-    let first : handed_by (with_write d w) opening end ≡ handed_by d opening end = handed_same d w opening end ended.1 ended.2 in
-    let rest : delivered (with_write d w) notes ≡ delivered d notes = delivered_same d w notes ended.3 in
+delivered_same d w (search ∷ searches) ended =
+    let first : handed_by (with_write d w) search ≡ handed_by d search = handed_same d w search ended.0 in
+    let rest : delivered (with_write d w) searches ≡ delivered d searches = delivered_same d w searches ended.1 in
     λ i. first i ++ rest i
-delivered_same d w (Opened opening ∷ Opened other ∷ notes) ended = absurd ended
-delivered_same d w (Opened opening ∷ Wrote write ∷ notes) ended = absurd ended
-delivered_same d w (Opened opening ∷ []) ended = absurd ended
-delivered_same d w (Closed end ∷ notes) ended = absurd ended
-delivered_same d w (Wrote write ∷ notes) ended = absurd ended
 
 -- one search more that is over
-pub delivered-append : (d : DirectoryState) (notes : List JournalNote) (opening : SearchOpening) (end : ClosedSearch) → AreEnded d notes
-    → delivered d (notes ++ Opened opening ∷ Closed end ∷ []) ≡ delivered d notes ++ handed_by d opening end
-delivered-append d [] opening end ended = append-nil (handed_by d opening end)
-delivered-append d (Opened first ∷ Closed last ∷ notes) opening end ended =
-    ap (λ messages. handed_by d first last ++ messages) (delivered-append d notes opening end ended.3)
-    ∙ sym (append_assoc (handed_by d first last) (delivered d notes) (handed_by d opening end))
-delivered-append d (Opened first ∷ Opened other ∷ notes) opening end ended = absurd ended
-delivered-append d (Opened first ∷ Wrote write ∷ notes) opening end ended = absurd ended
-delivered-append d (Opened first ∷ []) opening end ended = absurd ended
-delivered-append d (Closed last ∷ notes) opening end ended = absurd ended
-delivered-append d (Wrote write ∷ notes) opening end ended = absurd ended
+pub delivered-append : (d : DirectoryState) (searches : List EndedSearch) (search : EndedSearch) → delivered d (searches ++ search ∷ []) ≡ delivered d searches ++ handed_by d search
+delivered-append d [] search = append-nil (handed_by d search)
+delivered-append d (first ∷ searches) search =
+    ap (λ messages. handed_by d first ++ messages) (delivered-append d searches search) ∙ sym (append_assoc (handed_by d first) (delivered d searches) (handed_by d search))
+
+-- its entries come last
+pub entries-append : (searches : List EndedSearch) (search : EndedSearch) → notes_in (searches ++ search ∷ []) ≡ notes_in searches ++ Opened search.opening ∷ Closed search.end ∷ []
+entries-append [] search = refl
+entries-append (first ∷ searches) search = ap (λ (notes : List JournalNote). Opened first.opening ∷ Closed first.end ∷ notes) (entries-append searches search)
 
 -- one more that is over
-pub ended-append : (d : DirectoryState) (notes : List JournalNote) (opening : SearchOpening) (end : ClosedSearch) → AreEnded d notes
-    → opening.number ≡ end.number → opening.accepted ≤ length d.writes → count_of end.over end.handed ≤ length (stream_at_once d opening)
-    → AreEnded d (notes ++ Opened opening ∷ Closed end ∷ [])
-ended-append d [] opening end ended same before within = (same, before, within, tt)
-ended-append d (Opened first ∷ Closed last ∷ notes) opening end ended same before within =
-    (ended.0, ended.1, ended.2, ended-append d notes opening end ended.3 same before within)
-ended-append d (Opened first ∷ Opened other ∷ notes) opening end ended same before within = absurd ended
-ended-append d (Opened first ∷ Wrote write ∷ notes) opening end ended same before within = absurd ended
-ended-append d (Opened first ∷ []) opening end ended same before within = absurd ended
-ended-append d (Closed last ∷ notes) opening end ended same before within = absurd ended
-ended-append d (Wrote write ∷ notes) opening end ended same before within = absurd ended
+pub ended-append : (d : DirectoryState) (searches : List EndedSearch) (search : EndedSearch) → AreEnded d searches → IsEnded d search → AreEnded d (searches ++ search ∷ [])
+ended-append d [] search ended one = (one, tt)
+ended-append d (first ∷ searches) search ended one = (ended.0, ended-append d searches search ended.1 one)
 
 -- ---- searches that ended with busy
 
 -- searches that ended with the code busy did so still
-pub still_busy : (consumer : ℕ) (d : DirectoryState) (w : Write) (notes : List JournalNote) → AllEndBusy consumer d notes
-    → AllEndBusy consumer (with_write d w) notes
+pub still_busy : (consumer : ℕ) (d : DirectoryState) (w : Write) (searches : List EndedSearch) → AllEndBusy consumer d searches → AllEndBusy consumer (with_write d w) searches
 still_busy consumer d w [] busy = tt
-still_busy consumer d w (Opened opening ∷ Closed end ∷ notes) busy = (
-  record {
-    asked = busy.0.asked;
-    accepted = one_write d w opening.accepted busy.0.accepted;
-    before = busy.0.before;
-    over = busy.0.over;
-    handed = busy.0.handed;
-    within = still_within d w opening busy.0.before busy.0.accepted busy.0.within;
-  },
-  still_busy consumer d w notes busy.1,
+still_busy consumer d w (search ∷ searches) busy = (
+  record { ended = ended_grows d w search busy.0.ended; asked = busy.0.asked; before = busy.0.before; over = busy.0.over; handed = busy.0.handed },
+  still_busy consumer d w searches busy.1,
 )
-still_busy consumer d w (Opened opening ∷ Opened other ∷ notes) busy = absurd busy
-still_busy consumer d w (Opened opening ∷ Wrote write ∷ notes) busy = absurd busy
-still_busy consumer d w (Opened opening ∷ []) busy = absurd busy
-still_busy consumer d w (Closed end ∷ notes) busy = absurd busy
-still_busy consumer d w (Wrote write ∷ notes) busy = absurd busy
 
 -- one more that ended so
-pub busy-append : (consumer : ℕ) (d : DirectoryState) (notes : List JournalNote) (opening : SearchOpening) (end : ClosedSearch) → AllEndBusy consumer d notes
-    → EndsBusy consumer d opening end → AllEndBusy consumer d (notes ++ Opened opening ∷ Closed end ∷ [])
-busy-append consumer d [] opening end busy one = (one, tt)
-busy-append consumer d (Opened first ∷ Closed last ∷ notes) opening end busy one = (busy.0, busy-append consumer d notes opening end busy.1 one)
-busy-append consumer d (Opened first ∷ Opened other ∷ notes) opening end busy one = absurd busy
-busy-append consumer d (Opened first ∷ Wrote write ∷ notes) opening end busy one = absurd busy
-busy-append consumer d (Opened first ∷ []) opening end busy one = absurd busy
-busy-append consumer d (Closed last ∷ notes) opening end busy one = absurd busy
-busy-append consumer d (Wrote write ∷ notes) opening end busy one = absurd busy
+pub busy-append : (consumer : ℕ) (d : DirectoryState) (searches : List EndedSearch) (search : EndedSearch) → AllEndBusy consumer d searches → EndsBusy consumer d search
+    → AllEndBusy consumer d (searches ++ search ∷ [])
+busy-append consumer d [] search busy one = (one, tt)
+busy-append consumer d (first ∷ searches) search busy one = (busy.0, busy-append consumer d searches search busy.1 one)

@@ -10,7 +10,7 @@ use Rattle.sync_model.proofs.Groups.{heads, tails}
 use Rattle.sync_consumer.specs.Taking.{ConsumerState, Takes, taken_of}
 use Rattle.sync_consumer.specs.declared.consumer.Taken.{Taken}
 use Rattle.sync_consumer.specs.declared.consumer.Taken.TheVariants.{Staged, Stored, Copied, Over, Fault, NoMemory}
-use Rattle.sync_drill.specs.Delivered.{TakesItem, search_id, with_search}
+use Rattle.sync_drill.specs.Delivered.{TakesItem, WasTaken, search_id, with_search}
 use Rattle.sync_drill.specs.Handing.{HasTaken}
 use Rattle.sync_drill.specs.Halves.{TakingGoes}
 use Rattle.sync_drill.specs.declared.taking.Taking.{Taking}
@@ -84,12 +84,11 @@ asks_anew copy none = by copy.session refl
     by None is = ap (λ found. with_search found copy) (sym is)
     by (Some session) is = absurd (false≢true (sym none ∙ ap is_some is))
 
--- what was taken, where memory did not run out
-pub took : (before after : Copy) (message : Message) (result : Taken) → Takes before message after result → result ≢ NoMemory
-    → after ≡ (taken_of before message).0
-took before after message Staged takes some = ap (λ pair. pair.0) takes
-took before after message (Stored commit) takes some = ap (λ pair. pair.0) takes
-took before after message (Copied commit) takes some = ap (λ pair. pair.0) takes
-took before after message (Over code) takes some = ap (λ pair. pair.0) takes
-took before after message (Fault fault) takes some = ap (λ pair. pair.0) takes
-took before after message NoMemory takes some = absurd (some refl)
+-- what comes of a message that was taken
+pub took : (before after : Copy) (message : Message) (result : Taken) → Takes before message after result → WasTaken result → (after, result) ≡ taken_of before message
+took before after message Staged takes was = takes
+took before after message (Stored commit) takes was = takes
+took before after message (Copied commit) takes was = takes
+took before after message (Over code) takes was = takes
+took before after message (Fault fault) takes was = absurd was
+took before after message NoMemory takes was = absurd was

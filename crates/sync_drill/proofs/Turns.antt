@@ -1,5 +1,5 @@
 -- What a hand-out does at a consumer's port, by what it answers.
-use Rattle.std.proofs.Common.{◌≡◌, ◌⊎◌, ℕ, zero, suc, ◌+◌, ◌-◌, ◌≤◌, Bool, true, false, cond, ℤ, pos, List, [], ◌∷◌, ◌++◌, map, take, drop, length, Option, Some, None, inl, inr, refl, sym, ap, ◌∙◌, subst, arith, append_assoc}
+use Rattle.std.proofs.Common.{◌≡◌, ◌⊎◌, ℕ, ◌+◌, ◌-◌, ◌≤◌, Bool, true, false, cond, ℤ, pos, List, [], ◌∷◌, ◌++◌, map, take, drop, length, Option, Some, None, inl, inr, refl, sym, ap, ◌∙◌, subst, arith, append_assoc}
 use Rattle.std.proofs.lemmas.List.{map-append, take-append-drop}
 use Rattle.ldap_constants.specs.declared.result_codes.TheConstants.{BUSY}
 use Rattle.ldap_messages.specs.Whole.{HasSpelling, MessageValue, message_octets, message_value}
@@ -17,18 +17,18 @@ use Rattle.sync_wire.specs.Sending.{sent}
 use Rattle.directory_writes.specs.Directory.{DirectoryState}
 use Rattle.sync_provider.specs.HandingOut.{HandOut, turn_of, turn_of_message, turn_of_pending}
 use Rattle.sync_provider.specs.HandingOut.HandOut.{Hands, Closes, Waits, Unknown}
-use Rattle.sync_provider.specs.Ports.{PortState, FollowedSearch, HandOutReplies, IsReplied, after_turn_in, closing_of, handed_in, ended_in, stream_in, turn_in}
+use Rattle.sync_provider.specs.Ports.{PortState, FollowedSearch, HandOutReplies, IsReplied, after_turn_in, closing_of, handed_in, ended_in, pending_in, stream_in, turn_in}
 use Rattle.sync_provider.specs.Search.{busy_end}
 use Rattle.sync_provider.specs.declared.handed.Handed.{Handed}
 use Rattle.sync_provider.specs.declared.handed.Handed.TheVariants as handed
 use Rattle.sync_provider.specs.declared.journal_note.ClosedSearch.{ClosedSearch}
-use Rattle.sync_drill.specs.Delivered.{delivered, encoded, handed_by, handed_of, opened_operation, search_id, stream_at_once}
+use Rattle.sync_drill.specs.Delivered.{delivered, encoded, handed_by, handed_of, opened_operation, search_id, stream_at, EndedSearch}
 use Rattle.sync_drill.specs.Going.{HasGoneOn}
-use Rattle.sync_drill.specs.Handing.{EndsBusy, IsDone, IsHanding, MayOpen}
-use Rattle.sync_drill.proofs.AtOnce.{at_once}
+use Rattle.sync_drill.specs.Handing.{EndsBusy, IsDone, IsHanding, MayOpen, count_of}
 use Rattle.sync_drill.proofs.Going.{goes-twice, later-goes, stays}
 use Rattle.sync_drill.proofs.SearchesGo.{ended-goes, handed-goes}
-use Rattle.sync_drill.proofs.Handings.{followed_now, handing-handed, handing-later, may_open-ended}
+use Rattle.sync_drill.proofs.Handings.{ended_so, followed_now, handing-handed, handing-later, may_open-ended}
+use Rattle.sync_drill.proofs.Streams.{far_taken, far_whole}
 
 -- ---- the message of a turn
 
@@ -205,6 +205,31 @@ handed_out-goes search old new result replied =
     goes-twice old replied.place new (later-goes old replied.place replied.later)
     (turn_goes replied.place search (replied.place.followed search) (turn_of result) new replied.replies.state)
 
+not_unknown : (message : MessageValue) → Unknown ≡ Hands message → ⊥
+not_unknown message e = cc
+
+known_message : (id : ℕ) (m : SyncMessage) → Unknown ≡ turn_of_message id m → ⊥
+known_message id (AddOrModify adds entry cookie) is = not_unknown (sent id (AddOrModify adds entry cookie)) is
+known_message id (Delete uuid name cookie) is = not_unknown (sent id (Delete uuid name cookie)) is
+known_message id (Present uuid cookie) is = not_unknown (sent id (Present uuid cookie)) is
+known_message id (IdSet deletes uuids cookie) is = not_unknown (sent id (IdSet deletes uuids cookie)) is
+known_message id (NewCookie cookie) is = not_unknown (sent id (NewCookie cookie)) is
+known_message id (RefreshDelete done cookie) is = not_unknown (sent id (RefreshDelete done cookie)) is
+known_message id (RefreshPresent done cookie) is = not_unknown (sent id (RefreshPresent done cookie)) is
+known_message id (Done code control) is = apart is
+  where
+    apart : Unknown ≡ Closes code (sent id (Done code control)) → ⊥
+    apart e = cc
+known_message id Ignored is = not_unknown (sent id Ignored) is
+
+-- the turn of a search that is open
+known_turn : (id : ℕ) (messages : List SyncMessage) → Unknown ≡ turn_of_pending id messages → ⊥
+known_turn id [] is = apart is
+  where
+    apart : Unknown ≡ Waits → ⊥
+    apart e = cc
+known_turn id (m ∷ messages) is = known_message id m is
+
 module _ (consumer search : ℕ) (old new : PortState) (items : List (List ℕ)) (h : IsHanding consumer search old items) where
   abbrev octets : Message → List ℕ
   octets message = message_octets (message_value message)
@@ -224,8 +249,7 @@ module _ (consumer search : ℕ) (old new : PortState) (items : List (List ℕ))
       ap message_octets (ap (λ id. sent id next.first) (sym now.asked.id) ∙ sym next.is) in
       subst (λ item. IsHanding consumer search new (items ++ item ∷ [])) same
       (subst (λ q. IsHanding consumer search q (items ++ encoded (search_id, next.first) ∷ [])) (sym state)
-      (handing-handed consumer search p items now next.first next.rest
-      (sym (ap (drop now.handed) (at_once p.directory f refl)) ∙ next.left)))
+      (handing-handed consumer search p items now next.first next.rest next.left))
 
   small_id : (p : PortState) (now : IsHanding consumer search p items) → now.opening.id ≤ 2147483647
   small_id p now = subst (λ n. n ≤ 2147483647) (sym now.asked.id) (omega arith)
@@ -260,6 +284,14 @@ module _ (consumer search : ℕ) (old new : PortState) (items : List (List ℕ))
       by (inl next) = subst HasSpelling (sym next.is) (sent_spelled f.opened.id next.first (small_id p now))
       by (inr busy) = subst HasSpelling (sym busy.is) (sent_spelled f.opened.id busy_end (small_id p now))
 
+  -- no call finds its search gone
+  pub never_unknown : IsReplied old (λ p. HandOutReplies p search handed.NoSuchSearch new) → ⊥
+  never_unknown replied =
+      let p : PortState = replied.place in
+      let now : IsHanding consumer search p items = handing-later consumer search old p items replied.later h in
+      let f : FollowedSearch = followed_now consumer search p items now in
+      known_turn f.opened.id (pending_in p.directory f) (replied.replies.turn ∙ ap (turn_in p.directory) now.follows)
+
   -- nothing is pending
   pub done-waiting : IsReplied old (λ p. HandOutReplies p search handed.Nothing new) → IsDone consumer search new items
   done-waiting replied =
@@ -270,21 +302,7 @@ module _ (consumer search : ℕ) (old new : PortState) (items : List (List ℕ))
       none_left p.directory f (replied.replies.turn ∙ ap (turn_in p.directory) now.follows) in
       let state : new ≡ p = replied.replies.state ∙ ap (λ found. after_turn_in p search found (Some Waits)) now.follows in
       subst (λ q. IsDone consumer search q items) (sym state)
-      (record {
-        handing = now;
-        fits = all.0;
-        whole = no_more now.handed (stream_at_once p.directory now.opening) now.within
-            (sym (ap (drop now.handed) (at_once p.directory f refl)) ∙ all.1);
-      })
-    where
-      no_more : (n : ℕ) (messages : List SyncMessage) → n ≤ length messages → drop n messages ≡ [] → n ≡ length messages
-      no_more zero [] low is = refl
-      no_more zero (m ∷ messages) low is = absurd (some m messages is)
-        where
-          some : (first : SyncMessage) (rest : List SyncMessage) → first ∷ rest ≡ [] → ⊥
-          some first rest e = cc
-      no_more (suc n) [] low is = absurd (omega (arith, low))
-      no_more (suc n) (m ∷ messages) low is = ap suc (no_more n messages (omega (arith, low)) is)
+      (record { handing = now; fits = all.0; whole = far_whole p.directory now.opening now.marks now.handed now.far all.1 })
 
   -- the end of the search comes where a write was too much for it
   pub may_open-closed : (code : ℕ) (message : Message) → IsReplied old (λ p. HandOutReplies p search (handed.Ended code message) new)
@@ -304,7 +322,7 @@ module _ (consumer search : ℕ) (old new : PortState) (items : List (List ℕ))
       end = closing_of search f
 
       stream : List SyncMessage
-      stream = stream_at_once p.directory now.opening
+      stream = stream_at p.directory now.opening now.marks
 
       turn : Closes (pos code) (message_value message) ≡ turn_in p.directory (Some f)
       turn = replied.replies.turn ∙ ap (turn_in p.directory) now.follows
@@ -323,30 +341,33 @@ module _ (consumer search : ℕ) (old new : PortState) (items : List (List ℕ))
       late_over : f.over ≡ true → end.over ≡ Some f.handed
       late_over on = ap (λ b. cond {A = Option ℕ} b (Some f.handed) None) on
 
+      ended : EndedSearch
+      ended = ended_so consumer search p items now end
+
       -- what it handed out, and the end
-      given : (busy : IsBusy f (message_value message)) → items ++ octets message ∷ [] ≡ map encoded (delivered p.directory now.ended ++ handed_by p.directory now.opening end)
+      given : (busy : IsBusy f (message_value message)) → items ++ octets message ∷ [] ≡ map encoded (delivered p.directory now.ended ++ handed_by p.directory ended)
       given busy =
-          let all : handed_of end.over end.handed stream ≡ take f.handed stream ++ busy_end ∷ [] =
+          let all : handed_of end.over end.handed stream ≡ now.handed ++ busy_end ∷ [] =
           ap (λ over. handed_of over end.handed stream) (late_over busy.late)
-          ∙ (let one : f.handed + 1 - f.handed ≡ 1 = omega arith in ap (λ n. take f.handed stream ++ take n (busy_end ∷ [])) one) in
+          ∙ (let one : f.handed + 1 - f.handed ≡ 1 = omega arith in ap (λ n. take f.handed stream ++ take n (busy_end ∷ [])) one)
+          ∙ ap (λ messages. messages ++ busy_end ∷ []) (far_taken p.directory now.opening now.marks now.handed now.far) in
           ap (λ item. items ++ item ∷ []) (ap message_octets (busy.is ∙ ap (λ id. sent id busy_end) now.asked.id))
           ∙ ap (λ before. before ++ encoded (search_id, busy_end) ∷ []) now.offered_is
-          ∙ sym (map-append encoded (delivered p.directory now.ended ++ numbered (take f.handed stream)) ((search_id, busy_end) ∷ []))
+          ∙ sym (map-append encoded (delivered p.directory now.ended ++ numbered now.handed) ((search_id, busy_end) ∷ []))
           ∙ ap (map encoded)
-          (append_assoc (delivered p.directory now.ended) (numbered (take f.handed stream)) ((search_id, busy_end) ∷ [])
+          (append_assoc (delivered p.directory now.ended) (numbered now.handed) ((search_id, busy_end) ∷ [])
           ∙ ap (λ messages. delivered p.directory now.ended ++ messages)
-          (sym (map-append (λ one. (search_id, one)) (take f.handed stream) (busy_end ∷ []))
+          (sym (map-append (λ one. (search_id, one)) now.handed (busy_end ∷ []))
           ∙ ap numbered (sym all)
           ∙ ap (λ id. map (λ one. (id, one)) (handed_of end.over end.handed stream)) (sym now.asked.id)))
 
-      ends : (busy : IsBusy f (message_value message)) → EndsBusy consumer p.directory now.opening end
+      ends : (busy : IsBusy f (message_value message)) → EndsBusy consumer p.directory ended
       ends busy = record {
+        ended = record { number = now.its_number; handed = now.handed; far = now.far; counted = ap (λ over. count_of over end.handed) (sym (late_over busy.late)) };
         asked = now.asked;
-        accepted = now.before;
         before = f.handed;
         over = late_over busy.late;
         handed = refl;
-        within = now.within;
       }
 
       by : IsNext p.directory f (message_value message) ⊎ IsBusy f (message_value message) → MayOpen consumer new (items ++ octets message ∷ [])

@@ -6,15 +6,18 @@ use Rattle.ldap_messages.specs.Whole.{message_octets, message_value}
 use Rattle.ldap_messages.specs.declared.message.Message.{Message}
 use Rattle.sync_model.specs.Copy.{Copy, SyncSession, asked}
 use Rattle.sync_model.specs.Message.{SyncMessage}
-use Rattle.sync_model.specs.Stream.{SyncOperation, stream}
+use Rattle.sync_model.specs.Stream.{SyncOperation}
+use Rattle.sync_slices.specs.Slices.{stream_upto}
 use Rattle.sync_wire.specs.Sending.{sent}
 use Rattle.sync_consumer.specs.Taking.{nothing, taken_of}
+use Rattle.sync_consumer.specs.declared.consumer.Taken.{Taken}
+use Rattle.sync_consumer.specs.declared.consumer.Taken.TheVariants.{Staged, Stored, Copied, Over, Fault, NoMemory}
 use Rattle.directory_writes.specs.Directory.{DirectoryState}
-use Rattle.sync_provider.specs.Opened.{SearchOpening}
-use Rattle.sync_provider.specs.Search.{busy_end, session_of, whole_walk}
+use Rattle.sync_provider.specs.Opened.{SearchOpening, sliced_of}
+use Rattle.sync_provider.specs.Search.{busy_end, session_of}
 use Rattle.sync_provider.specs.declared.journal_note.ClosedSearch.{ClosedSearch}
 use Rattle.sync_provider.specs.declared.journal_note.JournalNote.{JournalNote}
-use Rattle.sync_provider.specs.declared.journal_note.JournalNote.TheVariants.{Wrote, Opened, Closed}
+use Rattle.sync_provider.specs.declared.journal_note.JournalNote.TheVariants.{Opened, Closed}
 
 -- the message ID of each search
 abbrev pub search_id : ℕ
@@ -26,12 +29,9 @@ search_id = 1
 abbrev pub opened_operation : DirectoryState → SearchOpening → SyncOperation
 opened_operation d opening = session_of opening.persists d.sid d.history opening.spec d.writes
 
--- all its messages up to these, where its refresh is decided at its acceptance
-abbrev pub stream_at_once : DirectoryState → SearchOpening → List SyncMessage
-stream_at_once d opening =
-    stream (opened_operation d opening) opening.start opening.accepted
-    (whole_walk (opened_operation d opening) opening.start opening.accepted)
-    (length d.writes - opening.accepted)
+-- all its messages up to these, where its pieces were decided at these numbers of writes
+abbrev pub stream_at : DirectoryState → SearchOpening → (marks : List ℕ) → List SyncMessage
+stream_at d opening marks = stream_upto (sliced_of d opening) marks (length d.writes)
 
 -- a message with its message ID
 abbrev pub Numbered : Type 0
@@ -44,25 +44,27 @@ handed_of None handed stream = take handed stream
 handed_of (Some before) handed stream =
     take before stream ++ take (handed - before) (busy_end ∷ [])
 
--- what a search handed out that is over, of its Stream over the writes of a directory
-abbrev pub handed_by : DirectoryState → SearchOpening → ClosedSearch → List Numbered
-handed_by d opening end =
-    map (λ message. (opening.id, message))
-    (handed_of end.over end.handed (stream_at_once d opening))
+-- a search that was opened and ended, and the numbers of writes at its pieces
+pub record EndedSearch : Type 0 where
+  pub opening : SearchOpening
+  pub marks : List ℕ
+  pub end : ClosedSearch
 
--- all that the searches handed out that are over, one search after the other; the first is open
--- where one is given
-abbrev pub delivered_since : DirectoryState → Option SearchOpening → List JournalNote
-    → List Numbered
-delivered_since d current [] = []
-delivered_since d current (Wrote write ∷ notes) = delivered_since d current notes
-delivered_since d current (Opened opening ∷ notes) = delivered_since d (Some opening) notes
-delivered_since d None (Closed end ∷ notes) = delivered_since d None notes
-delivered_since d (Some opening) (Closed end ∷ notes) =
-    handed_by d opening end ++ delivered_since d None notes
+-- the entries of a journal of some searches, one search after the other
+abbrev pub notes_in : List EndedSearch → List JournalNote
+notes_in [] = []
+notes_in (search ∷ searches) = Opened search.opening ∷ Closed search.end ∷ notes_in searches
 
-abbrev pub delivered : DirectoryState → List JournalNote → List Numbered
-delivered d notes = delivered_since d None notes
+-- what a search handed out, of its Stream over the writes of a directory
+abbrev pub handed_by : DirectoryState → EndedSearch → List Numbered
+handed_by d search =
+    map (λ message. (search.opening.id, message))
+    (handed_of search.end.over search.end.handed (stream_at d search.opening search.marks))
+
+-- all that some handed out, one search after the other
+abbrev pub delivered : DirectoryState → List EndedSearch → List Numbered
+delivered d [] = []
+delivered d (search ∷ searches) = handed_by d search ++ delivered d searches
 
 -- a message in its canonical encoding
 abbrev pub encoded : Numbered → List ℕ
@@ -87,14 +89,32 @@ copy_after copy messages = fold after_message copy messages
 abbrev pub IsReadFrom : List ℕ → Message → Type 0
 IsReadFrom item taken = (count : ℕ) × (read_of item ≡ message (message_value taken) count)
 
+-- a message was taken, and not refused
+abbrev pub WasTaken : Taken → Type 0
+WasTaken Staged = Unit {0}
+WasTaken (Stored commit) = Unit {0}
+WasTaken (Copied commit) = Unit {0}
+WasTaken (Over code) = Unit {0}
+WasTaken (Fault fault) = ⊥
+WasTaken NoMemory = ⊥
+
+-- so was each of these, one after the other
+abbrev pub WereTaken : Copy → List Message → Type 0
+WereTaken copy [] = Unit {0}
+WereTaken copy (first ∷ later) =
+    WasTaken (taken_of (with_search copy.session copy) first).1
+    × WereTaken (after_message copy first) later
+
 -- a copy before and after the message that is read from these bytes
 pub record TakesItem (before : Copy) (item : List ℕ) (after : Copy) : Type 0 where
   pub taken : Message
   pub read : IsReadFrom item taken
   pub is : after ≡ after_message before taken
+  pub fits : WasTaken (taken_of (with_search before.session before) taken).1
 
 -- what a copy is that began with nothing and took the messages that are read from these items
 pub record IsMadeOf (items : List (List ℕ)) (copy : Copy) : Type 0 where
   pub messages : List Message
   pub read : AllZip IsReadFrom items messages
   pub is : copy ≡ copy_after nothing messages
+  pub fit : WereTaken nothing messages

@@ -9,19 +9,23 @@ use Rattle.drill_plan.specs.declared.plan.DrillPlan.{DrillPlan}
 use Rattle.drill_plan.specs.Ending.{entries_after, followed_by}
 use Rattle.sync_drill.specs.declared.drilled.RingEnds.{RingEnds}
 use Rattle.sync_drill.specs.declared.following.Following.{Following}
-use Rattle.sync_drill.specs.Delivered.{delivered, encoded, IsMadeOf}
+use Rattle.sync_drill.specs.Delivered.{EndedSearch, notes_in, delivered, encoded, IsMadeOf}
 use Rattle.sync_drill.specs.Drilled.{EachAt, HaveDrilled}
 use Rattle.sync_drill.specs.Following.{HasWorked}
+use Rattle.sync_drill.specs.Handing.{AreEnded}
 use Rattle.sync_drill.specs.Journals.{notes_of}
 use Rattle.sync_drill.specs.Writers.{HasFinished}
 
--- A consumer's ring took and gave all that its searches handed out by the journal, and its copy is
--- what that makes of nothing: the entries that it follows, after all writes of the journal.
+-- A consumer's ring took and gave all that its searches handed out, which are those of the journal,
+-- each at its place in its Stream; and its copy is what that makes of nothing: the entries that it
+-- follows, after all writes of the journal.
 pub record HasFollowed (d : DirectoryState) (journal : Journal) (consumer : ℕ) (port : PortState)
     (copy : ConsumerState) (ends : RingEnds) : Type 0 where
   pub ring : AreOneRing ends.producer ends.consumer
-  pub offered_is : offered ends.producer
-      ≡ map encoded (delivered d (notes_of port.number journal))
+  pub searches : List EndedSearch
+  pub own : notes_of port.number journal ≡ notes_in searches
+  pub are_ended : AreEnded d searches
+  pub offered_is : offered ends.producer ≡ map encoded (delivered d searches)
   pub taken_is : taken ends.consumer ≡ offered ends.producer
   pub made : IsMadeOf (taken ends.consumer) copy.copy
   pub entries : copy.copy.held ≡ select (followed_by consumer) (entries_after (writes_in journal))

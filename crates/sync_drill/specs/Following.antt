@@ -1,8 +1,8 @@
 -- A consumer at its port: its two halves together, before their threads, after them and in the end.
 use Rattle.std.specs.Prelude.{◌≡◌, ◌<◌, ◌+◌, ℕ, suc, false, [], None}
 use Rattle.link_rings.specs.Ends.{offered, taken, AreOneRing}
-use Rattle.link_rings.specs.declared.ends.Consumer.{Consumer}
-use Rattle.link_rings.specs.declared.ends.Producer.{Producer}
+use Rattle.link_rings.specs.declared.ends.RingConsumer.{RingConsumer}
+use Rattle.link_rings.specs.declared.ends.RingProducer.{RingProducer}
 use Rattle.sync_consumer.specs.Taking.{ConsumerState}
 use Rattle.sync_provider.specs.Ports.{HasSeenAllOf, PortState}
 use Rattle.sync_drill.specs.declared.following.Following.{Following}
@@ -72,7 +72,7 @@ pub record MaySettle {P H : Type 0} (home : P → H) (state : P → PortState) (
 -- A consumer whose search was ended: before that its port had seen all that this one has, all that
 -- was due was handed out, and its copy took all of it.
 pub record IsSettled (consumer : ℕ) (seen port : PortState) (copy : ConsumerState)
-    (producer : Producer) (end : Consumer) : Type 0 where
+    (producer : RingProducer) (end : RingConsumer) : Type 0 where
   pub ring : AreOneRing producer end
   pub taken_is : taken end ≡ offered producer
   pub copied : HasTaken consumer copy (taken end)

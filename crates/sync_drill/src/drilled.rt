@@ -1,5 +1,7 @@
 //! What a drill gives back.
 use ldap_ber::Octets;
+use link_rings::{RingConsumer, RingProducer};
+use sync_consumer::Consumer;
 
 /// What is printed.
 #[derive(Drop)]
@@ -10,8 +12,8 @@ pub struct Summary {
 /// The two ends of a consumer's ring.
 #[derive(Drop)]
 pub struct RingEnds {
-    pub producer: link_rings::Producer,
-    pub consumer: link_rings::Consumer,
+    pub producer: RingProducer,
+    pub consumer: RingConsumer,
 }
 
 /// A drill that has ended: what it prints, the ports in their order, none of which has a search,
@@ -21,6 +23,6 @@ pub struct Drilled<P> {
     pub summary: Summary,
     pub writers: Vec<P>,
     pub consumers: Vec<P>,
-    pub copies: Vec<sync_consumer::Consumer>,
+    pub copies: Vec<Consumer>,
     pub rings: Vec<RingEnds>,
 }

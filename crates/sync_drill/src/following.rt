@@ -7,7 +7,7 @@ ghost use Rattle.sync_drill.specs.Going.{IsAsBefore};
 ghost use Rattle.sync_drill.specs.Handing.{IsDone};
 ghost use Rattle.sync_drill.specs.Following.{FollowingGoes, IsBroughtUp, IsEven, MayFollow, MaySettle};
 
-use crate::handing_out::{HandingOut, Step};
+use crate::handing_out::{HandingOut, HandingOutcome};
 use crate::taking::Taking;
 use ldap_ber::NoMemory;
 use std::alloc::{AllocError, Global};
@@ -88,13 +88,13 @@ impl<P: Port> Following<P> {
             (P.state self.new.handing.port) (offered self.new.handing.producer)) }
     {
         match self.handing.step() {
-            Step::Offered => {
+            HandingOutcome::Offered => {
                 self.take_what_is_left()?;
                 Ok(true)
             }
-            Step::Full => Err(AllocError),
-            Step::Nothing => Ok(false),
-            Step::Failed => Err(AllocError),
+            HandingOutcome::Full => Err(AllocError),
+            HandingOutcome::Nothing => Ok(false),
+            HandingOutcome::Failed => Err(AllocError),
         }
     }
 

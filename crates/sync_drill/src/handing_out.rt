@@ -13,7 +13,7 @@ use bytes::Bytes;
 use drill_plan::followed_spec;
 use ldap_ber::{NoMemory, Octets, discard};
 use ldap_messages::Message;
-use link_rings::{Full, Producer};
+use link_rings::{Full, RingProducer};
 use std::alloc::{AllocError, Global};
 use std::sync::Wait;
 use sync_messages::{Mode, SyncRequest};
@@ -29,14 +29,14 @@ pub(crate) struct HandingOut<P> {
     pub(crate) consumer: u32,
     pub(crate) port: P,
     pub(crate) search: u64,
-    pub(crate) producer: Producer,
+    pub(crate) producer: RingProducer,
     /// Memory has run out: what it gives back is of no use.
     pub(crate) failed: bool,
 }
 
 /// What came of a try to hand a message out.
 #[derive(Clone, Copy, PartialEq, Eq)]
-pub(crate) enum Step {
+pub(crate) enum HandingOutcome {
     /// One was handed out and offered.
     Offered,
     /// The ring has no room.
@@ -89,37 +89,37 @@ impl<P: Port> HandingOut<P> {
         let written = events.written.read();
         let more = events.may_be_written();
         match self.step() {
-            Step::Offered => {
+            HandingOutcome::Offered => {
                 ring.offered.advance();
                 true
             }
-            Step::Full => ring.wait_for_room(rt, taken),
-            Step::Nothing => more && events.wait_for_write(rt, written),
-            Step::Failed => false,
+            HandingOutcome::Full => ring.wait_for_room(rt, taken),
+            HandingOutcome::Nothing => more && events.wait_for_write(rt, written),
+            HandingOutcome::Failed => false,
         }
     }
 
     /// Hands the next message out and offers it, where the ring has room for it.
-    pub(crate) fn step(&mut self) -> Step
+    pub(crate) fn step(&mut self) -> HandingOutcome
         requires { IsHanding self.old.consumer self.old.search (P.state self.old.port)
             (offered self.old.producer) }
         ensures goes { HandingGoes P.home P.state self.old self.new }
-        ensures kept { result ≢ Step.Failed → self.new.failed ≡ self.old.failed }
-        ensures handing { result ≢ Step.Failed → IsHanding
+        ensures kept { result ≢ HandingOutcome.Failed → self.new.failed ≡ self.old.failed }
+        ensures handing { result ≢ HandingOutcome.Failed → IsHanding
             self.new.consumer self.new.search (P.state self.new.port) (offered self.new.producer) }
-        ensures nothing { result ≡ Step.Nothing → IsDone
+        ensures nothing { result ≡ HandingOutcome.Nothing → IsDone
             self.new.consumer self.new.search (P.state self.new.port) (offered self.new.producer) }
-        ensures still { result ≡ Step.Nothing
+        ensures still { result ≡ HandingOutcome.Nothing
             → offered self.new.producer ≡ offered self.old.producer }
     {
         if !self.producer.has_room() {
-            return Step::Full;
+            return HandingOutcome::Full;
         }
         match self.hand_on() {
             Ok(more) => step_of(more),
             Err(_) => {
                 self.failed = true;
-                Step::Failed
+                HandingOutcome::Failed
             }
         }
     }
@@ -152,7 +152,7 @@ impl<P: Port> HandingOut<P> {
                 Ok(true)
             }
             Handed::Nothing => Ok(false),
-            Handed::NoSuchSearch => Err(AllocError),
+            Handed::NoSuchSearch => unreachable!(),
             Handed::NoMemory => Err(AllocError),
         }
     }
@@ -211,11 +211,15 @@ impl<P: Port> HandingOut<P> {
 }
 
 /// What came of a try for which memory did not run out.
-fn step_of(more: bool) -> Step
-    ensures fine { result ≢ Step.Failed }
-    ensures nothing { result ≡ Step.Nothing → more ≡ false }
+fn step_of(more: bool) -> HandingOutcome
+    ensures fine { result ≢ HandingOutcome.Failed }
+    ensures nothing { result ≡ HandingOutcome.Nothing → more ≡ false }
 {
-    if more { Step::Offered } else { Step::Nothing }
+    if more {
+        HandingOutcome::Offered
+    } else {
+        HandingOutcome::Nothing
+    }
 }
 
 /// The encoding of a message.

@@ -12,8 +12,9 @@ use crate::handing_out::HandingOut;
 use crate::taking::Taking;
 use drill_plan::followed_spec;
 use ldap_ber::NoMemory;
-use link_rings::{Consumer, Producer, ring};
+use link_rings::{RingConsumer, RingProducer, ring};
 use std::alloc::Global;
+use sync_consumer::Consumer;
 use sync_provider::Port;
 
 /// How many items a consumer's ring has room for.
@@ -59,7 +60,7 @@ fn opened<P: Port>(
     alloc: Global,
     consumer: u32,
     port: P,
-    producer: Producer,
+    producer: RingProducer,
 ) -> Result<HandingOut<P>, NoMemory>
     requires unused { IsUnused (P.state port) }
     requires none { offered producer ≡ [] }
@@ -83,14 +84,14 @@ fn opened<P: Port>(
 }
 
 /// The half that takes, whose copy is of nothing.
-fn waiting(alloc: Global, consumer: u32, end: Consumer) -> Result<Taking, NoMemory>
+fn waiting(alloc: Global, consumer: u32, end: RingConsumer) -> Result<Taking, NoMemory>
     requires { taken end ≡ [] }
     ensures same { IfOk result (λ taking. (taking.end ≡ end)
         × (taking.consumer ≡ consumer) × (taking.failed ≡ false)) }
     ensures taking { IfOk result (λ taking. HasCopied taking) }
 {
     let spec = followed_spec(alloc, consumer)?;
-    let copy = sync_consumer::Consumer::new(alloc, spec, false)?;
+    let copy = Consumer::new(alloc, spec, false)?;
     Ok(Taking {
         alloc,
         consumer,

@@ -1,8 +1,8 @@
 //! The thread that takes messages from a consumer's ring into its copy.
-ghost use Rattle.std.specs.Prelude.{◌≡◌, ◌≢◌, ℕ, List, ◌∷◌, true, false, IfOk, OnOk};
+ghost use Rattle.std.specs.Prelude.{◌≡◌, ℕ, List, ◌∷◌, true, false, IfOk, OnOk};
 ghost use mathlib.Core.List.{IsPrefix};
 ghost use Rattle.link_rings.specs.Ends.{taken, known_items};
-ghost use Rattle.sync_drill.specs.Delivered.{with_search, IsReadFrom, TakesItem};
+ghost use Rattle.sync_drill.specs.Delivered.{with_search, IsReadFrom, TakesItem, WasTaken};
 ghost use Rattle.sync_drill.specs.Handing.{HasTaken, TakesKnown};
 ghost use Rattle.sync_drill.specs.Halves.{TakingGoes};
 
@@ -11,6 +11,7 @@ use crate::handing_out::SEARCH_ID;
 use bytes::Bytes;
 use ldap_ber::{NoMemory, discard};
 use ldap_messages::Message;
+use link_rings::RingConsumer;
 use std::alloc::{AllocError, Global};
 use std::sync::Wait;
 use sync_consumer::{Consumer, Taken};
@@ -22,7 +23,7 @@ pub(crate) struct Taking {
     pub(crate) alloc: Global,
     pub(crate) consumer: u32,
     pub(crate) copy: Consumer,
-    pub(crate) end: link_rings::Consumer,
+    pub(crate) end: RingConsumer,
     /// Memory has run out: what it gives back is of no use.
     pub(crate) failed: bool,
 }
@@ -138,9 +139,9 @@ fn begin_search(copy: &mut Consumer) -> Result<(), NoMemory>
     Ok(())
 }
 
-/// Whether a message was taken, where memory did not run out.
+/// Whether a message was taken: not where it is refused, or memory ran out.
 fn check_taken(taken: Taken) -> Result<(), NoMemory>
-    ensures { OnOk result (taken ≢ Taken.NoMemory) }
+    ensures { OnOk result (WasTaken taken) }
 {
     match taken {
         Taken::Staged => Ok(()),

@@ -15,9 +15,9 @@ use Rattle.sync_model.specs.Stream.Start.{InitialContent, DeletePhase, PresentPh
 use Rattle.sync_model.proofs.Refresh.{marks-last}
 use Rattle.directory_writes.proofs.Notified.{Agree, agree-longer, over-agree_upto}
 use Rattle.sync_slices.specs.Law.{IsAt, IsMarked, IsWalking, IsSettled}
-use Rattle.sync_slices.specs.Slices.{SlicedRefresh, SliceProgress, pieces_at, undecided, pieces_of, left_of, decisions_of, last_of, later_upto, coming_by, pending_now}
-use Rattle.sync_provider.specs.Search.{SearchState, cookie_after, session_of, decided_at_once, sliced_over}
-use Rattle.sync_provider.proofs.Refreshes.{cookie-longer}
+use Rattle.sync_slices.specs.Slices.{SlicedRefresh, SliceProgress, most_decided, pieces_at, undecided, pieces_of, left_of, decisions_of, last_of, later_upto, coming_by, pending_now}
+use Rattle.sync_provider.specs.Search.{SearchState, cookie_after, sliced_over}
+use Rattle.sync_provider.proofs.Histories.{cookie-longer}
 
 module _ (persists : Bool) (selection : Search) (f g : ℕ → List Entry) (c d : ℕ → CookieText) (start : Start) (accepted size now : ℕ) (low : accepted ≤ now) (same : Agree f g now) (cookies : (n : ℕ) → n ≤ now → c n ≡ d n) where
   abbrev one : SyncOperation
@@ -88,6 +88,12 @@ module _ (persists : Bool) (selection : Search) (f g : ℕ → List Entry) (c d 
       after_late : (ds es : List WalkDecision) → ds ≡ es → broken ++ (gathered true ds ++ end_of persists true (c last) ∷ []) ≡ broken ++ (gathered true es ++ end_of persists true (d last) ∷ [])
       after_late ds es is = λ i. broken ++ (gathered true (is i) ++ end_of persists true (cookies last least i) ∷ [])
 
+  -- pieces up to there make the same refresh
+  pub refresh_agrees : (ps : List RefreshPiece) → MarksRise accepted ps → last_mark accepted ps ≤ now → refresh one start accepted ps ≡ refresh other start accepted ps
+  refresh_agrees ps rises last =
+      (λ i. gathered (is_delete_phase start) (decides_pieces ps accepted rises last i) ++ after_walk one (is_delete_phase start) (last_mark accepted ps) (lates (last_mark accepted ps) last i))
+      ∙ ap (λ ms. gathered (is_delete_phase start) (flat_map (decide_piece other start) ps) ++ ms) (afters (is_delete_phase start) (last_mark accepted ps) last (late_uuids other accepted (last_mark accepted ps)))
+
   -- ---- later writes
 
   groups : (n : ℕ) → n + 1 ≤ now → group one n ≡ group other n
@@ -109,10 +115,7 @@ module _ (persists : Bool) (selection : Search) (f g : ℕ → List Entry) (c d 
     decided_same = decides_pieces (pieces_of first marks) accepted rises last ∙ ap (flat_map (decide_piece other start)) (pieces_same marks)
 
     refresh_same : refresh one start accepted (pieces_of first marks) ≡ refresh other start accepted (pieces_of second marks)
-    refresh_same =
-        (λ i. gathered (is_delete_phase start) (decides_pieces (pieces_of first marks) accepted rises last i) ++ after_walk one (is_delete_phase start) (last_of first marks) (lates (last_of first marks) last i))
-        ∙ ap (λ ms. gathered (is_delete_phase start) (flat_map (decide_piece other start) (pieces_of first marks)) ++ ms) (afters (is_delete_phase start) (last_of first marks) last (late_uuids other accepted (last_of first marks)))
-        ∙ ap (refresh other start accepted) (pieces_same marks)
+    refresh_same = refresh_agrees (pieces_of first marks) rises last ∙ ap (refresh other start accepted) (pieces_same marks)
 
     later_same : later_upto first marks now ≡ later_upto second marks now
     later_same =
@@ -165,9 +168,6 @@ module _ (persists : Bool) (selection : Search) (f g : ℕ → List Entry) (c d 
 -- ---- a longer history
 
 module _ (sid history : ℕ) (s : SearchState) (writes more whole : List Write) (is : writes ++ more ≡ whole) (now : ℕ) (fits : now ≤ length writes) where
-  abbrev size : ℕ
-  size = decided_at_once (session_of s.persists sid history s.spec writes) s.start s.accepted
-
   agree : Agree (state_of history writes) (state_of history (writes ++ more)) now
   agree n below = sym (agree-longer history writes more n (omega (arith, below, fits)))
 
@@ -179,8 +179,8 @@ module _ (sid history : ℕ) (s : SearchState) (writes more whole : List Write) 
     pub pending_longer : (progress : SliceProgress) → pending_now (sliced_over sid history writes s) now progress ≡ pending_now (sliced_over sid history whole s) now progress
     pending_longer progress =
         ap (λ coming. progress.rest ++ (coming ++ progress.due))
-        (coming_same s.persists s.spec (state_of history writes) (state_of history (writes ++ more)) (cookie_after sid history writes) (cookie_after sid history (writes ++ more)) s.start s.accepted size now low agree agree_cookies
-        (decided_at_once (session_of s.persists sid history s.spec (writes ++ more)) s.start s.accepted) progress progress.left)
+        (coming_same s.persists s.spec (state_of history writes) (state_of history (writes ++ more)) (cookie_after sid history writes) (cookie_after sid history (writes ++ more)) s.start s.accepted most_decided now low agree agree_cookies
+        most_decided progress progress.left)
         ∙ ap (λ ws. pending_now (sliced_over sid history ws s) now progress) is
 
   -- a search that is at its place is so over the longer one
@@ -188,13 +188,5 @@ module _ (sid history : ℕ) (s : SearchState) (writes more whole : List Write) 
       → IsAt (sliced_over sid history whole s) now progress handed handed_later
   at_longer progress handed handed_later at =
       subst (λ ws. IsAt (sliced_over sid history ws s) now progress handed handed_later) is
-      (subst (λ us. IsAt (sized (length us + 1)) now progress handed handed_later) walks
-      (at_same s.persists s.spec (state_of history writes) (state_of history (writes ++ more)) (cookie_after sid history writes) (cookie_after sid history (writes ++ more)) s.start s.accepted size now at.marked.low agree agree_cookies
-      progress handed handed_later at))
-    where
-      sized : ℕ → SlicedRefresh
-      sized n = record { operation = session_of s.persists sid history s.spec (writes ++ more); start = s.start; accepted = s.accepted; size = n }
-
-      walks : walk (session_of s.persists sid history s.spec writes) s.start s.accepted ≡ walk (session_of s.persists sid history s.spec (writes ++ more)) s.start s.accepted
-      walks =
-          walks_by s.persists s.spec (state_of history writes) (state_of history (writes ++ more)) (cookie_after sid history writes) (cookie_after sid history (writes ++ more)) s.start s.accepted size now at.marked.low agree agree_cookies s.start
+      (at_same s.persists s.spec (state_of history writes) (state_of history (writes ++ more)) (cookie_after sid history writes) (cookie_after sid history (writes ++ more)) s.start s.accepted most_decided now at.marked.low agree agree_cookies
+      progress handed handed_later at)

@@ -27,7 +27,7 @@ use Rattle.sync_provider.specs.Queueing.{limits_of}
 use Rattle.sync_provider.specs.Search.{SearchState, sliced_over, sliced, pending, advanced, is_end}
 use Rattle.sync_provider.specs.declared.writing.CommitFault.{CommitFault}
 use Rattle.sync_provider.proofs.Agreeing.{pending_longer}
-use Rattle.sync_provider.proofs.Growing.{refresh_like, GoesOn, gathered_goes, called_begins}
+use Rattle.sync_provider.proofs.Growing.{refresh_like, GoesOn, break_goes, gathered_goes, called_begins}
 use Rattle.sync_provider.proofs.Judged.{run_same}
 use Rattle.sync_provider.proofs.Overflows.{Matches, next_match}
 use Rattle.sync_provider.proofs.Places.{begins_with_own, positive}
@@ -57,10 +57,6 @@ after_walk_once operation covered last (u ∷ us) = record {
 
     break : List SyncMessage
     break = cond covered [] (RefreshPresent false None ∷ [])
-
-    break_goes : (b : Bool) → Each GoesOn (cond b [] (RefreshPresent false None ∷ []))
-    break_goes true = tt
-    break_goes false = (refl, tt)
 
 -- so it is in a search that ends with its refresh
 stream_once : (operation : SyncOperation) (start : Start) (opened : ℕ) (pieces : List RefreshPiece) (count : ℕ) → operation.persists ≡ false → EndsOnce (stream operation start opened pieces count)

@@ -1,16 +1,20 @@
 -- What is pushed into a queue, by whether it is full, and the room for what is staged.
-use Rattle.std.proofs.Common.{◌≡◌, ℕ, ◌+◌, ◌-◌, ◌<◌, ◌≤◌, ◌^◌, Bool, true, false, cond, nat_lt, List, [], ◌∷◌, ◌++◌, length, map, refl, ap, sym, subst, ◌∙◌, arith, inl, inr, ◌⊎◌}
-use Rattle.std.specs.Prelude.{not, ◌&&◌, ◌||◌, ◌↔◌, sum_by, is_err, Result, Ok, Err, IfErr}
-use Rattle.std.proofs.lemmas.Bool.{false≢true, lt-ltb, ltb-true, or_right}
+use Rattle.std.proofs.Common.{◌≡◌, ℕ, zero, suc, ◌+◌, ◌-◌, ◌*◌, ◌<◌, ◌≤◌, ◌^◌, Bool, true, false, cond, get_or, nat_lt, List, [], ◌∷◌, ◌++◌, length, refl, ap, sym, subst, ◌∙◌, arith, inl, inr, ◌⊎◌}
+use Rattle.std.specs.Prelude.{◌&&◌, ◌||◌, ◌↔◌, sum_by, is_err, Result, Ok, Err, IfErr}
+use Rattle.std.proofs.lemmas.Bool.{false≢true, true≢false, cases_lt, le-ltb, lt-ltb, ltb-true, or_right}
 use Rattle.std.proofs.lemmas.List.{map_push, append-nil}
 use Rattle.std.proofs.lemmas.List.Sums.{sum_by-append, sum_by-cons}
 use Rattle.persist_queues.specs.Pending.{IsOver}
 use Rattle.persist_queues.specs.declared.fault.QueueFault.{QueueFault}
 use Rattle.persist_queues.specs.declared.fault.QueueFault.TheVariants.{QueueFull, NoMemory}
 use Rattle.sync_model.specs.Message.{SyncMessage}
-use Rattle.sync_provider.specs.Queueing.{message_weight, most_pending_weight, is_full, overflowed}
+use Rattle.sync_model.specs.Law.{is_nil}
+use Rattle.sync_slices.specs.Slices.{SliceProgress, grows_too_much, given_up}
+use Rattle.sync_provider.specs.Queueing.{message_weight, most_pending_weight, is_full, overflowed, changed_weight, is_crowded, limits_of}
 use Rattle.sync_provider.specs.Search.{SearchState}
-use Rattle.sync_provider.specs.Staging.{HeldSearch, counted_weight, queued, pushed_by, pushed_group, pushed_staged, first_pushed, HasRoom}
+use Rattle.sync_provider.specs.StagedGroups.{AreGrown, AreStaged, changed_with, grown_by, last_changed, messages_in}
+use Rattle.sync_provider.specs.Staging.{counted_weight, queued, kept_changed, pushed_by, pushed_group, pushed_staged, first_pushed}
+use Rattle.sync_provider.specs.declared.staged_group.StagedGroup.{StagedGroup}
 use Rattle.sync_provider.proofs.Saying.{counted_sum}
 
 -- ---- the weights as they are counted
@@ -67,102 +71,261 @@ pub pushed_in : (limit : ℕ) (messages : List SyncMessage) (s : SearchState) �
 pushed_in limit [] s some none = absurd (omega (arith, some))
 pushed_in limit (m ∷ ms) s some none = ap (λ b. cond b (overflowed s) (with_due s (m ∷ ms))) (room_is limit (s.progress.due ++ m ∷ ms) none)
 
--- a write is reported to a search whose pieces are all decided where it goes on and is not over
-pub noting_settled : (persists over : Bool) → (persists && not over) ≡ (not over && (persists || false))
-noting_settled true true = refl
-noting_settled true false = refl
-noting_settled false true = refl
-noting_settled false false = refl
-
--- ---- the room for what is staged
-
--- more room is room
-pub room_more : (spare after count : ℕ) (groups : List (List SyncMessage)) → HasRoom spare count groups → spare ≤ after → HasRoom after count groups
-room_more spare after count groups has more = record { counted = has.counted; room = omega (arith, has.room, more) }
-
--- a group more, where there is room for all
-pub room_added : {M : Type 0} (shows : M → List SyncMessage) (staged : List M) (messages : M) (spare after count total : ℕ) → HasRoom spare count (map shows staged)
-    → total ≡ count + length (shows messages) → total ≤ after → HasRoom after total (map shows (staged ++ messages ∷ []))
-room_added shows staged messages spare after count total has all fits =
-    subst (HasRoom after total) (sym (map_push shows staged messages)) (record {
-      counted = omega (arith, all, has.counted, sum_by-append length (map shows staged) (shows messages ∷ []));
-      room = fits;
-    })
-
--- the messages that are staged for one search more
-pub groups_added : {M : Type 0} (shows : M → List SyncMessage) (staged : List M) (messages : M) → map shows (staged ++ messages ∷ []) ≡ map shows staged ++ shows messages ∷ []
-groups_added shows staged messages = map_push shows staged messages
-
--- nothing is staged, and there is room for that
-pub none_staged : {M : Type 0} (shows : M → List SyncMessage) (staged : List M) → staged ≡ [] → map shows staged ≡ []
-none_staged shows staged none = ap (map shows) none
-
--- for none there is room
-pub room_none : {M : Type 0} (shows : M → List SyncMessage) (staged : List M) (spare : ℕ) → staged ≡ [] → HasRoom spare 0 (map shows staged)
-room_none shows staged spare none = subst (HasRoom spare 0) (sym (none_staged shows staged none)) (record { counted = refl; room = omega arith })
-
--- the first group is counted, and fits
-pub group_counted : {M : Type 0} (shows : M → List SyncMessage) (staged rest : List M) (messages : M) (spare count : ℕ) → HasRoom spare count (map shows staged) → staged ≡ messages ∷ rest
-    → length (shows messages) ≤ count
-group_counted shows staged rest messages spare count has is =
-    let first : HasRoom spare count (shows messages ∷ map shows rest) = subst (λ all. HasRoom spare count (map shows all)) is has in
-    let counted : count ≡ length (shows messages) + sum_by length (map shows rest) = first.counted ∙ sum_by-cons length (shows messages) (map shows rest) in
-    omega (arith, counted)
-
--- there is room for the first of them
-pub group_fits : {M : Type 0} (shows : M → List SyncMessage) (staged rest : List M) (messages : M) (spare count : ℕ) → HasRoom spare count (map shows staged) → staged ≡ messages ∷ rest
-    → length (shows messages) ≤ spare
-group_fits shows staged rest messages spare count has is =
-    let counted : length (shows messages) ≤ count = group_counted shows staged rest messages spare count has is in
-    omega (arith, counted, has.room)
-
--- without it there is room for the others, also where it takes its own
-pub room_left : {M : Type 0} (shows : M → List SyncMessage) (staged rest : List M) (messages : M) (spare after count : ℕ) → HasRoom spare count (map shows staged) → staged ≡ messages ∷ rest
-    → spare ≤ after + length (shows messages) → HasRoom after (count - length (shows messages)) (map shows rest)
-room_left shows staged rest messages spare after count has is used =
-    let first : HasRoom spare count (shows messages ∷ map shows rest) = subst (λ all. HasRoom spare count (map shows all)) is has in
-    let counted : count ≡ length (shows messages) + sum_by length (map shows rest) = first.counted ∙ sum_by-cons length (shows messages) (map shows rest) in
-    record { counted = omega (arith, counted); room = omega (arith, counted, first.room, used) }
-
--- ---- group by group
-
--- the first group, where there is one
-pub first_none : {M : Type 0} (shows : M → List SyncMessage) (limit : ℕ) (s : SearchState) (staged : List M) → length staged ≡ 0
-    → first_pushed limit s (map shows staged) ≡ record { search = s; staged = map shows staged }
-first_none shows limit s [] none = refl
-first_none shows limit s (messages ∷ rest) none = absurd (omega (arith, none))
-
--- the first group is pushed
-pub first_some : {M : Type 0} (shows : M → List SyncMessage) (limit : ℕ) (s : SearchState) (staged rest : List M) (messages : M) → staged ≡ messages ∷ rest
-    → first_pushed limit s (map shows staged) ≡ record { search = pushed_group limit (shows messages) s; staged = map shows rest }
-first_some shows limit s staged rest messages is = ap (λ all. first_pushed limit s (map shows all)) is
+-- ---- a group
 
 -- it is dropped where a write was too much, or there is nothing in it
-pub group_dropped : (limit : ℕ) (messages : List SyncMessage) (s : SearchState) → s.progress.left ≡ [] → (s.over ≡ true) ⊎ (length messages ≡ 0) → pushed_group limit messages s ≡ s
-group_dropped limit messages s settled (inl over) = ap (λ b. cond b s (pushed_by s.progress.left limit messages s)) over
-group_dropped limit messages s settled (inr none) = ap (cond s.over s) (ap (λ left. pushed_by left limit messages s) settled ∙ pushed_none limit messages s none) ∙ same s.over
+pub group_dropped : (limit : ℕ) (messages : List SyncMessage) (s : SearchState) → (s.over ≡ true) ⊎ (length messages ≡ 0) → pushed_group limit messages s ≡ s
+group_dropped limit messages s (inl over) = ap (λ b. cond b s (pushed_by s.progress.left limit messages s)) over
+group_dropped limit messages s (inr none) = ap (cond s.over s) (by s.progress.left messages none) ∙ same s.over
   where
     same : (b : Bool) → cond b s s ≡ s
     same true = refl
     same false = refl
 
--- and else pushed
-pub group_pushed : (limit : ℕ) (messages : List SyncMessage) (s after : SearchState) → s.progress.left ≡ [] → s.over ≡ false → queued limit messages s ≡ after → pushed_group limit messages s ≡ after
-group_pushed limit messages s after settled over is =
-    ap (λ b. cond b s (pushed_by s.progress.left limit messages s)) over
-    ∙ ap (λ left. pushed_by left limit messages s) settled
-    ∙ is
+    kept : (limit : ℕ) → kept_changed limit s.progress.changed s ≡ s
+    kept limit =
+        ap (λ b. cond (b && (limits_of limit).is_crowded (length s.progress.changed)) (overflowed s) s)
+        (le-ltb (length s.progress.changed) (length s.progress.changed) (omega arith))
 
--- a group that is too much ends the search
-pub first_over : (limit : ℕ) (messages : List SyncMessage) (was view now : HeldSearch) → view ≡ was → view.staged ≡ messages ∷ now.staged → view.search.progress.left ≡ [] → view.search.over ≡ false → 0 < length messages
-    → IsOver counted_weight limit (view.search.progress.due ++ messages) → now.search ≡ overflowed view.search → now ≡ first_pushed limit was.search was.staged
-first_over limit messages was view now is staged settled over some full ended =
-    (λ i. record { search = (ended ∙ sym pushed) i; staged = now.staged })
-    ∙ sym (ap (first_pushed limit view.search) staged)
-    ∙ ap (λ (held : HeldSearch). first_pushed limit held.search held.staged) is
+    by : (left : List ℕ) (messages : List SyncMessage) → length messages ≡ 0 → pushed_by left limit messages s ≡ s
+    by [] messages none = pushed_none limit messages s none
+    by (u ∷ us) [] none = kept limit
+    by (u ∷ us) (m ∷ ms) none = absurd (omega (arith, none))
+
+-- its messages go after what is due, or they are too much
+pub group_queued : (limit : ℕ) (messages : List SyncMessage) (s : SearchState) (full : Bool) → s.over ≡ false → s.progress.left ≡ [] → 0 < length messages → full ≡ is_full limit (s.progress.due ++ messages)
+    → pushed_group limit messages s ≡ cond full (overflowed s) (with_due s messages)
+group_queued limit messages s full off none some is =
+    ap (λ b. cond b s (pushed_by s.progress.left limit messages s)) off
+    ∙ ap (λ left. pushed_by left limit messages s) none
+    ∙ by messages some is
   where
-    pushed : pushed_group limit messages view.search ≡ overflowed view.search
-    pushed = group_pushed limit messages view.search (overflowed view.search) settled over (pushed_over limit messages view.search some full)
+    by : (ms : List SyncMessage) → 0 < length ms → full ≡ is_full limit (s.progress.due ++ ms) → queued limit ms s ≡ cond full (overflowed s) (with_due s ms)
+    by [] some is = absurd (omega (arith, some))
+    by (m ∷ ms) some is = ap (λ b. cond b (overflowed s) (with_due s (m ∷ ms))) (sym is)
+
+-- or what changed is kept, or is too much
+pub group_kept : (limit : ℕ) (messages : List SyncMessage) (s : SearchState) (changed : List ℕ) (full : Bool) → s.over ≡ false → is_nil s.progress.left ≡ false → changed ≡ changed_with s.progress.changed messages
+    → full ≡ grows_too_much (limits_of limit) (length s.progress.changed) (length changed)
+    → pushed_group limit messages s ≡ cond full (overflowed s) (record s { progress = record s.progress { changed = changed } })
+group_kept limit messages s changed full off some same is =
+    ap (λ b. cond b s (pushed_by s.progress.left limit messages s)) off
+    ∙ by s.progress.left some
+    ∙ ap (λ us. kept_changed limit us s) (sym same)
+    ∙ ap (λ b. cond b (overflowed s) (record s { progress = record s.progress { changed = changed } })) (sym is)
+  where
+    by : (left : List ℕ) → is_nil left ≡ false → pushed_by left limit messages s ≡ kept_changed limit (changed_with s.progress.changed messages) s
+    by [] some = absurd (true≢false some)
+    by (u ∷ us) some = refl
+
+-- the search then, by what is left of its refresh and its queue
+pub queued_after : (limit : ℕ) (messages : List SyncMessage) (s : SearchState) (was now : SliceProgress) (due : List SyncMessage) (full : Bool) → s.progress ≡ record was { due = s.progress.due } → s.over ≡ false → was.left ≡ []
+    → 0 < length messages → full ≡ is_full limit (s.progress.due ++ messages) → now ≡ cond full (given_up was) was → due ≡ cond full [] (s.progress.due ++ messages)
+    → record s { progress = record now { due = due }; over = full } ≡ pushed_group limit messages s
+queued_after limit messages s was now due full is off none some fits then dues =
+    (λ i. record s { progress = record (then i) { due = dues i }; over = full })
+    ∙ by full
+    ∙ sym (group_queued limit messages s full off (ap (λ (p : SliceProgress). p.left) is ∙ none) some fits)
+  where
+    by : (b : Bool) → record s { progress = record (cond b (given_up was) was) { due = cond b [] (s.progress.due ++ messages) }; over = b } ≡ cond b (overflowed s) (with_due s messages)
+    by true = ap (λ (p : SliceProgress). record s { progress = given_up p; over = true }) (sym is)
+    by false = λ i. record s { progress = record (sym is i) { due = s.progress.due ++ messages }; over = sym off i }
+
+pub kept_after : (limit : ℕ) (messages : List SyncMessage) (s : SearchState) (was now : SliceProgress) (changed : List ℕ) (due : List SyncMessage) (full : Bool) → s.progress ≡ record was { due = s.progress.due } → s.over ≡ false → is_nil was.left ≡ false
+    → changed ≡ changed_with was.changed messages → full ≡ grows_too_much (limits_of limit) (length was.changed) (length changed) → now ≡ cond full (given_up was) (record was { changed = changed }) → due ≡ cond full [] s.progress.due
+    → record s { progress = record now { due = due }; over = full } ≡ pushed_group limit messages s
+kept_after limit messages s was now changed due full is off some grown fits then dues =
+    (λ i. record s { progress = record (then i) { due = dues i }; over = full })
+    ∙ by full
+    ∙ sym (group_kept limit messages s changed full off (ap (λ (p : SliceProgress). is_nil p.left) is ∙ some)
+    (grown ∙ ap (λ (p : SliceProgress). changed_with p.changed messages) (sym is))
+    (fits ∙ ap (λ (p : SliceProgress). grows_too_much (limits_of limit) (length p.changed) (length changed)) (sym is)))
+  where
+    by : (b : Bool) → record s { progress = record (cond b (given_up was) (record was { changed = changed })) { due = cond b [] s.progress.due }; over = b }
+        ≡ cond b (overflowed s) (record s { progress = record s.progress { changed = changed } })
+    by true = ap (λ (p : SliceProgress). record s { progress = given_up p; over = true }) (sym is)
+    by false = λ i. record s { progress = record (sym is i) { changed = changed }; over = sym off i }
+
+-- more identities than weigh 16 MiB, each 16
+pub crowded_is : (limit count : ℕ) → (nat_lt limit count || nat_lt 1048576 count) ≡ is_crowded limit count
+crowded_is limit count = ap (λ b. nat_lt limit count || b) (by (cases_lt 1048576 count))
+  where
+    by : (1048576 < count) ⊎ (count ≤ 1048576) → nat_lt 1048576 count ≡ nat_lt most_pending_weight (count * changed_weight)
+    by (inl more) = lt-ltb 1048576 count more ∙ sym (lt-ltb most_pending_weight (count * changed_weight) (omega (arith, more)))
+    by (inr few) = le-ltb 1048576 count few ∙ sym (le-ltb most_pending_weight (count * changed_weight) (omega (arith, few)))
+
+-- ---- what is staged
+
+-- nothing is, where no group is
+pub none_staged : (staged : List StagedGroup) → staged ≡ [] → messages_in staged ≡ []
+none_staged staged none = ap messages_in none
+
+pub room_none : (over : Bool) (p : SliceProgress) (spare : ℕ) (staged : List StagedGroup) → staged ≡ [] → (over ≡ true → p.left ≡ []) → AreStaged over p spare 0 staged
+room_none over p spare staged none ended = subst (AreStaged over p spare 0) (sym none) (record { ended = ended; counted = refl; room = λ off settled. omega arith; grown = λ some. tt })
+
+-- nor where none was too much before
+pub room_open : (over : Bool) (p : SliceProgress) (spare : ℕ) (staged : List StagedGroup) → staged ≡ [] → over ≡ false → AreStaged over p spare 0 staged
+room_open over p spare staged none off = room_none over p spare staged none (λ on. absurd (false≢true (sym off ∙ on)))
+
+-- nor where no more is left to decide than where some was
+pub room_cleared : (over : Bool) (p q : SliceProgress) (spare after count : ℕ) (old staged : List StagedGroup) → AreStaged over p spare count old → q ≡ p → staged ≡ [] → AreStaged over q after 0 staged
+room_cleared over p q spare after count old staged are same none = room_none over q after staged none (λ on. ap (λ (r : SliceProgress). r.left) same ∙ are.ended on)
+
+-- what is handed out of the refresh changes nothing of it
+pub room_handed : (over going : Bool) (p q : SliceProgress) (rest : List SyncMessage) (spare count : ℕ) (staged : List StagedGroup) → AreStaged over p spare count staged → q ≡ cond going (record p { rest = rest }) p → AreStaged over q spare count staged
+room_handed over going p q rest spare count staged are same = subst (λ r. AreStaged over r spare count staged) (sym same) (by going)
+  where
+    by : (b : Bool) → AreStaged over (cond b (record p { rest = rest }) p) spare count staged
+    by true = record { ended = are.ended; counted = are.counted; room = are.room; grown = are.grown }
+    by false = are
+
+-- more room is room
+pub room_more : (over : Bool) (p : SliceProgress) (spare after count : ℕ) (staged : List StagedGroup) → AreStaged over p spare count staged → spare ≤ after → AreStaged over p after count staged
+room_more over p spare after count staged are more = record {
+  ended = are.ended;
+  counted = are.counted;
+  room = λ off settled. let within : count ≤ spare = are.room off settled in omega (arith, within, more);
+  grown = are.grown;
+}
+
+-- ---- one group more
+
+-- after what changed with all that is staged
+grown_last : (changed : List ℕ) (staged : List StagedGroup) (group : StagedGroup) → AreGrown changed staged → group.changed ≡ changed_with (last_changed changed (messages_in staged)) group.messages.items
+    → AreGrown changed (staged ++ group ∷ [])
+grown_last changed [] group are is = (is, tt)
+grown_last changed (first ∷ staged) group are is = (are.0, grown_last (changed_with changed first.messages.items) staged group are.1 is)
+
+pub group_added : (over : Bool) (p : SliceProgress) (spare after count total : ℕ) (staged : List StagedGroup) (group : StagedGroup) → AreStaged over p spare count staged
+    → total ≡ count + length group.messages.items → (over ≡ false → p.left ≡ [] → total ≤ after) → group.changed ≡ grown_by p.left (last_changed p.changed (messages_in staged)) group.messages.items
+    → AreStaged over p after total (staged ++ group ∷ [])
+group_added over p spare after count total staged group are all fits grown = record {
+  ended = are.ended;
+  counted =
+      let longer = ap (sum_by length) (map_push (λ (g : StagedGroup). g.messages.items) staged group) in
+      let both = sum_by-append length (messages_in staged) (group.messages.items ∷ []) in
+      omega (arith, all, are.counted, longer, both);
+  room = fits;
+  grown = λ some. grown_last p.changed staged group (are.grown some) (grown ∙ by p.left some);
+}
+  where
+    by : (left : List ℕ) → is_nil left ≡ false → grown_by left (last_changed p.changed (messages_in staged)) group.messages.items ≡ changed_with (last_changed p.changed (messages_in staged)) group.messages.items
+    by [] some = absurd (true≢false some)
+    by (u ∷ us) some = refl
+
+-- the messages that are staged for one search more
+pub groups_added : (staged : List StagedGroup) (group : StagedGroup) → messages_in (staged ++ group ∷ []) ≡ messages_in staged ++ group.messages.items ∷ []
+groups_added staged group = map_push (λ (g : StagedGroup). g.messages.items) staged group
+
+-- ---- what changes with it
+
+-- nothing is kept once all is decided
+pub grown_none : (left changed : List ℕ) (messages : List SyncMessage) → is_nil left ≡ true → [] ≡ grown_by left changed messages
+grown_none [] changed messages none = refl
+grown_none (u ∷ us) changed messages none = absurd (false≢true none)
+
+-- else what changed before it, and with it
+pub grown_some : (left before changed : List ℕ) (messages : List SyncMessage) (set : List ℕ) → is_nil left ≡ false → before ≡ changed → set ≡ changed_with before messages → set ≡ grown_by left changed messages
+grown_some [] before changed messages set some same is = absurd (true≢false some)
+grown_some (u ∷ us) before changed messages set some same is = is ∙ ap (λ c. changed_with c messages) same
+
+-- the last group has what changed with all of them
+pub last_is : (changed : List ℕ) (staged : List StagedGroup) (group : StagedGroup) (last : ℕ) → AreGrown changed staged → length staged ≡ suc last → group ≡ get_or staged last group
+    → group.changed ≡ last_changed changed (messages_in staged)
+last_is changed [] group last are long is = absurd (omega (arith, long))
+last_is changed (first ∷ []) group zero are long is = ap (λ (g : StagedGroup). g.changed) is ∙ are.0
+last_is changed (first ∷ []) group (suc last) are long is = absurd (omega (arith, long))
+last_is changed (first ∷ next ∷ staged) group zero are long is = absurd (omega (arith, long))
+last_is changed (first ∷ next ∷ staged) group (suc last) are long is = last_is (changed_with changed first.messages.items) (next ∷ staged) group last are.1 (omega (arith, long)) is
+
+-- where there is none it is as it was
+pub no_groups : (changed : List ℕ) (staged : List StagedGroup) → length staged ≡ 0 → changed ≡ last_changed changed (messages_in staged)
+no_groups changed [] none = refl
+no_groups changed (group ∷ staged) none = absurd (omega (arith, none))
+
+-- ---- the first group
+
+-- where there is none
+pub first_none : (limit : ℕ) (s : SearchState) (staged : List StagedGroup) → length staged ≡ 0
+    → first_pushed limit s (messages_in staged) ≡ record { search = s; staged = messages_in staged }
+first_none limit s [] none = refl
+first_none limit s (group ∷ staged) none = absurd (omega (arith, none))
+
+-- where it is put there
+pub first_some : (limit : ℕ) (s : SearchState) (staged rest : List StagedGroup) (group : StagedGroup) → staged ≡ group ∷ rest
+    → first_pushed limit s (messages_in staged) ≡ record { search = pushed_group limit group.messages.items s; staged = messages_in rest }
+first_some limit s staged rest group is = ap (λ groups. first_pushed limit s (messages_in groups)) is
+
+module _ (over : Bool) (p : SliceProgress) (spare count : ℕ) (staged rest : List StagedGroup) (group : StagedGroup) (are : AreStaged over p spare count staged) (is : staged ≡ group ∷ rest) where
+  abbrev messages : List SyncMessage
+  messages = group.messages.items
+
+  counts : count ≡ length messages + sum_by length (messages_in rest)
+  counts = are.counted ∙ ap (λ groups. sum_by length (messages_in groups)) is ∙ sum_by-cons length messages (messages_in rest)
+
+  -- it is counted
+  pub group_counted : length messages ≤ count
+  group_counted = omega (arith, counts)
+
+  -- there is room for it
+  pub group_fits : over ≡ false → p.left ≡ [] → length messages ≤ spare
+  group_fits off none = let within : count ≤ spare = are.room off none in omega (arith, counts, within)
+
+  -- it has what changed with it
+  pub group_grown : is_nil p.left ≡ false → group.changed ≡ changed_with p.changed messages
+  group_grown some = (subst (AreGrown p.changed) is (are.grown some)).0
+
+  -- the others, where it is dropped
+  pub left_dropped : (over ≡ true) ⊎ (length messages ≡ 0) → AreStaged over p spare (count - length messages) rest
+  left_dropped dropped = record {
+    ended = are.ended;
+    counted = omega (arith, counts);
+    room = λ off none. let within : count ≤ spare = are.room off none in omega (arith, counts, within);
+    grown = λ some. by dropped some;
+  }
+    where
+      all : is_nil p.left ≡ false → AreGrown (changed_with p.changed messages) rest
+      all some = (subst (AreGrown p.changed) is (are.grown some)).1
+
+      same : (ms : List SyncMessage) → length ms ≡ 0 → changed_with p.changed ms ≡ p.changed
+      same [] none = refl
+      same (m ∷ ms) none = absurd (omega (arith, none))
+
+      by : (over ≡ true) ⊎ (length messages ≡ 0) → is_nil p.left ≡ false → AreGrown p.changed rest
+      by (inl ended) some = absurd (true≢false (sym (ap is_nil (are.ended ended)) ∙ some))
+      by (inr none) some = subst (λ c. AreGrown c rest) (same messages none) (all some)
+
+  -- where nothing is left to decide
+  pub left_settled : (full : Bool) (then : SliceProgress) (after : ℕ) → over ≡ false → p.left ≡ [] → then ≡ cond full (given_up p) p → spare ≤ after + length messages → AreStaged full then after (count - length messages) rest
+  left_settled full then after off none same used = record {
+    ended = λ on. settled;
+    counted = omega (arith, counts);
+    room = λ fits left. let within : count ≤ spare = are.room off none in omega (arith, counts, within, used);
+    grown = λ some. absurd (true≢false (sym (ap is_nil settled) ∙ some));
+  }
+    where
+      by : (b : Bool) → (cond b (given_up p) p).left ≡ []
+      by true = refl
+      by false = none
+
+      settled : then.left ≡ []
+      settled = ap (λ (q : SliceProgress). q.left) same ∙ by full
+
+  -- where what changed is kept
+  pub left_walking : (full : Bool) (then : SliceProgress) (after : ℕ) → is_nil p.left ≡ false → then ≡ cond full (given_up p) (record p { changed = group.changed }) → AreStaged full then after (count - length messages) rest
+  left_walking full then after some same = subst (λ q. AreStaged full q after (count - length messages) rest) (sym same) (by full)
+    where
+      all : AreGrown (changed_with p.changed messages) rest
+      all = (subst (AreGrown p.changed) is (are.grown some)).1
+
+      by : (b : Bool) → AreStaged b (cond b (given_up p) (record p { changed = group.changed })) after (count - length messages) rest
+      by true = record { ended = λ on. refl; counted = omega (arith, counts); room = λ off left. absurd (true≢false off); grown = λ some. absurd (true≢false some) }
+      by false = record {
+        ended = λ on. absurd (false≢true on);
+        counted = omega (arith, counts);
+        room = λ off left. absurd (true≢false (sym (ap is_nil left) ∙ some));
+        grown = λ more. subst (λ c. AreGrown c rest) (sym (group_grown some)) all;
+      }
 
 -- what is refused where there is room is too much
 pub refused_full : {A : Type 0} (r : Result A QueueFault) (limit spare long : ℕ) (Over : Type 0) → is_err r ≡ true → (r ≡ Err (QueueFull limit)) ↔ Over → (r ≡ Err NoMemory → spare < long)

@@ -3,6 +3,7 @@ use Rattle.std.proofs.Common.{◌≡◌, ◌<◌, ◌≤◌, ◌⊎◌, ◌+◌,
 use Rattle.std.specs.Prelude.{Result, Ok, Err, not, is_some}
 use Rattle.std.specs.List.{find}
 use Rattle.std.proofs.lemmas.Bool.{cases_order}
+use Rattle.std.proofs.lemmas.Option.{none-some}
 use Rattle.ldap_constants.specs.declared.result_codes.TheConstants.{NO_SUCH_OBJECT}
 use Rattle.dn_names.specs.Names.{is_at_or_below}
 use Rattle.sync_messages.specs.Request.{request_of}
@@ -114,25 +115,22 @@ none_free es all = none_from es 1 64 all
 
 -- ---- the number that an answer has
 
-never : (number : ℕ) → None ≡ Some number → ⊥
-never number is = cc
-
 -- it is the free one
 opened_at : (d : DirectoryState) (free : Option ℕ) (ask : SyncSearch) (read : Result SyncRequest SyncFault) (number : ℕ) → number_of_answer (answer_by d free ask read) ≡ Some number → free ≡ Some number
-opened_at d free ask (Err fault) number is = absurd (never number is)
+opened_at d free ask (Err fault) number is = absurd (none-some number is)
 opened_at d free ask (Ok request) number is = by_base (is_at_or_below ask.spec.base d.suffix) is
   where
     by_code : (k : ℕ) (code : Option ℕ) → number_of_answer (refused_or_opened d k code) ≡ Some number → Some k ≡ Some number
     by_code k None is = is
-    by_code k (Some code) is = absurd (never number is)
+    by_code k (Some code) is = absurd (none-some number is)
 
     by_number : (free : Option ℕ) → number_of_answer (numbered d request free) ≡ Some number → free ≡ Some number
-    by_number None is = absurd (never number is)
+    by_number None is = absurd (none-some number is)
     by_number (Some k) is = by_code k (request_code d request) is
 
     by_base : (b : Bool) → number_of_answer (cond b (numbered d request free) (Refused NO_SUCH_OBJECT)) ≡ Some number → free ≡ Some number
     by_base true is = by_number free is
-    by_base false is = absurd (never number is)
+    by_base false is = absurd (none-some number is)
 
 -- where none is free it has none
 crowded : (d : DirectoryState) (ask : SyncSearch) (read : Result SyncRequest SyncFault) → number_of_answer (answer_by d None ask read) ≡ None
@@ -150,7 +148,7 @@ refused_still d k ask (Err fault) is free = refl
 refused_still d k ask (Ok request) is free = by_base (is_at_or_below ask.spec.base d.suffix) is
   where
     by_code : (j : ℕ) (code : Option ℕ) → number_of_answer (refused_or_opened d k code) ≡ None → number_of_answer (refused_or_opened d j code) ≡ None
-    by_code j None is = absurd (never k (sym is))
+    by_code j None is = absurd (none-some k (sym is))
     by_code j (Some code) is = refl
 
     by_number : (free : Option ℕ) → number_of_answer (numbered d request (Some k)) ≡ None → number_of_answer (numbered d request free) ≡ None

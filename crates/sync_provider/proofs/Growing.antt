@@ -96,20 +96,21 @@ gathered_goes deletes decisions =
     each_weaker (IsPart deletes (λ entry. Unit {0}) (λ uuid. Unit {0})) GoesOn (gathered deletes decisions) (part_goes deletes)
     (each-gathered deletes (λ entry. Unit {0}) (λ uuid. Unit {0}) decisions (any_decision decisions))
 
+-- a break of the walk is no end
+pub break_goes : (covered : Bool) → Each GoesOn (cond covered [] (RefreshPresent false None ∷ []))
+break_goes true = tt
+break_goes false = (refl, tt)
+
 -- nor is what follows the walk
 after_walk_goes : (operation : SyncOperation) (covered : Bool) (last : ℕ) (late : List ℕ) → operation.persists ≡ true → Each GoesOn (after_walk operation covered last late)
 after_walk_goes operation covered last [] goes = (ap (λ b. is_end (end_of b covered (operation.cookies last))) goes ∙ end_goes covered (operation.cookies last), tt)
 after_walk_goes operation covered last (u ∷ us) goes =
-    each-append GoesOn (cond covered [] (RefreshPresent false None ∷ [])) (gathered true decisions ++ end_of operation.persists true (operation.cookies last) ∷ []) (broken covered)
+    each-append GoesOn (cond covered [] (RefreshPresent false None ∷ [])) (gathered true decisions ++ end_of operation.persists true (operation.cookies last) ∷ []) (break_goes covered)
     (each-append GoesOn (gathered true decisions) (end_of operation.persists true (operation.cookies last) ∷ []) (gathered_goes true decisions)
     (ap (λ b. is_end (end_of b true (operation.cookies last))) goes ∙ end_goes true (operation.cookies last), tt))
   where
     decisions : List WalkDecision
     decisions = flat_map (decide_late operation last) (u ∷ us)
-
-    broken : (b : Bool) → Each GoesOn (cond b [] (RefreshPresent false None ∷ []))
-    broken true = tt
-    broken false = (refl, tt)
 
 notified_goes : (cookie : Option CookieText) (uuid : ℕ) (was now : Option Entry) → Each GoesOn (notified cookie uuid was now)
 notified_goes cookie uuid None None = tt

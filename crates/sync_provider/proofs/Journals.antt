@@ -10,7 +10,7 @@ use Rattle.directory_writes.specs.Directory.{DirectoryState}
 use Rattle.sync_provider.specs.Accepting.{free_number, numbers_from, answer_to_request, answer_to}
 use Rattle.sync_provider.specs.HandingOut.{has_message, search_at, turn_of_pending}
 use Rattle.sync_provider.specs.Journal.{port_state, note_of, journal_from, journal_of, AreInOrder, JournalledProvider, numbered, journal_in, IsJournalled}
-use Rattle.sync_provider.specs.Ports.{Journal, PortState, write_in, writes_in, open_after, open_from, is_open, free_in, answer_by, IsReplied, CanMeet, HasMet}
+use Rattle.sync_provider.specs.Ports.{Journal, PortState, noted, write_in, writes_in, open_after, open_from, is_open, free_in, answer_by, IsReplied, CanMeet, HasMet}
 use Rattle.sync_provider.specs.Search.{SearchState, pending}
 use Rattle.sync_provider.specs.declared.journal_note.JournalNote.{JournalNote}
 use Rattle.sync_provider.specs.declared.journal_note.JournalNote.TheVariants as notes
@@ -125,7 +125,8 @@ journal_length (e ∷ events) k ws =
 
 -- ---- the writes of the journal
 
-writes_append : (one other : Journal) → writes_in (one ++ other) ≡ writes_in one ++ writes_in other
+-- the writes of two journals in a row
+pub writes_append : (one other : Journal) → writes_in (one ++ other) ≡ writes_in one ++ writes_in other
 writes_append [] other = refl
 writes_append (e ∷ one) other = ap (λ rest. write_in e.0 ++ rest) (writes_append one other) ∙ sym (append_assoc (write_in e.0) (writes_in one) (writes_in other))
 
@@ -149,6 +150,12 @@ writes_kept (e ∷ events) k ws =
     ∙ take-append-drop n ws
 
 -- ---- an entry more of the journal
+
+-- the entry that a port notes comes last in its journal
+pub noted_journal : (p : PortState) (note : JournalNote) (by : ℕ) → (noted p note by).journal ≡ p.journal ++ (note, by) ∷ []
+noted_journal p (notes.Wrote write) by = refl
+noted_journal p (notes.Opened opening) by = refl
+noted_journal p (notes.Closed end) by = refl
 
 from_none : (v : JournalledProvider) → length v.state.directory.writes ≡ 0 + length v.state.directory.writes
 from_none v = omega arith

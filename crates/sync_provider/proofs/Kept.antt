@@ -1,10 +1,10 @@
 -- A search that is accepted, and while other calls are made.
 use Rattle.std.proofs.Common.{◌≡◌, ◌≢◌, ℕ, Bool, true, false, cond, List, [], ◌∷◌, length, Option, Some, None, refl, ap, sym, ◌∙◌}
 use Rattle.std.specs.Prelude.{Result, Ok, Err, not, is_some}
-use Rattle.std.specs.List.{find}
 use Rattle.std.proofs.lemmas.Bool.{false≢true, true≢false}
 use Rattle.ldap_constants.specs.declared.result_codes.TheConstants.{PROTOCOL_ERROR, ADMIN_LIMIT_EXCEEDED, NO_SUCH_OBJECT}
 use Rattle.dn_names.specs.Names.{is_at_or_below}
+use Rattle.entry_tree.proofs.Finding.{found_passes}
 use Rattle.sync_messages.specs.Request.{request_of}
 use Rattle.sync_messages.specs.declared.fault.SyncFault.{SyncFault}
 use Rattle.sync_messages.specs.declared.request.SyncRequest.{SyncRequest}
@@ -25,21 +25,6 @@ use Rattle.sync_provider.specs.declared.searches.Accepted.TheVariants.{Opened, R
 use Rattle.sync_provider.specs.declared.searches.SyncSearch.{SyncSearch}
 
 -- ---- what is accepted had a free number
-
--- what is found passes the test
-pub find_passes : {X : Type 0} (p : X → Bool) (xs : List X) (x : X) → find p xs ≡ Some x → p x ≡ true
-find_passes p [] x h = absurd (far h)
-  where
-    far : None ≡ Some x → ⊥
-    far e = cc
-find_passes p (y ∷ xs) x h = by (find_passes p xs x) (p y) refl h
-  where
-    same : Some y ≡ Some x → y ≡ x
-    same e = cc
-
-    by : (find p xs ≡ Some x → p x ≡ true) → (b : Bool) → p y ≡ b → cond b (Some y) (find p xs) ≡ Some x → p x ≡ true
-    by rest true hit is = sym (ap p (same is)) ∙ hit
-    by rest false miss is = rest is
 
 free_none : (found : Option SearchState) → not (is_some found) ≡ true → found ≡ None
 free_none None h = refl
@@ -66,7 +51,7 @@ request_free d es request number count within = by_base within
 
     by_code : (n : ℕ) → free_number es ≡ Some n → (code : Option ℕ) → refused_or_opened d n code ≡ Opened number count → IsFree d es number count
     by_code n is None e = record {
-      free = ap (search_at es) (sym (numbers n e)) ∙ free_none (search_at es n) (find_passes (is_free es) (numbers_from 1 64) n is);
+      free = ap (search_at es) (sym (numbers n e)) ∙ free_none (search_at es n) (found_passes (is_free es) (numbers_from 1 64) n is);
       counted = counts n e;
     }
     by_code n is (Some code) e = absurd (refused code e)

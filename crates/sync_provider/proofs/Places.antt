@@ -5,7 +5,7 @@ use Rattle.entry_tree.specs.declared.op.Op.TheVariants.{Commit}
 use Rattle.entry_tree.specs.declared.op.Write.{Write}
 use Rattle.entry_tree.specs.Selection.{Search, search_of}
 use Rattle.sync_model.specs.Message.{SyncMessage}
-use Rattle.sync_model.specs.Stream.{Start, walk}
+use Rattle.sync_model.specs.Stream.{Start}
 use Rattle.sync_slices.specs.Law.{IsAt}
 use Rattle.sync_slices.specs.Slices.{SliceProgress, pending_now}
 use Rattle.sync_slices.proofs.Deciding.{first_is}
@@ -43,10 +43,7 @@ placed_by d s handed handed_later at = λ writes begins. at_longer d.sid d.histo
 
 -- some identities are decided at once
 pub positive : (d : DirectoryState) (s : SearchState) → 0 < (sliced d s).size
-positive d s = above (length (walk (sliced d s).operation s.start s.accepted))
-  where
-    above : (n : ℕ) → 0 < n + 1
-    above n = omega arith
+positive d s = omega arith
 
 -- ---- a write
 

@@ -9,7 +9,7 @@ use Rattle.directory_writes.specs.Directory.{code_of_judged}
 use Rattle.sync_provider.specs.Accepting as accepting
 use Rattle.sync_provider.specs.HandingOut as handing
 use Rattle.sync_provider.specs.Answering.{WriteLeaves, AcceptLeaves, HandOutLeaves, Answered, MayLeave, Leads, calls_of, calls_of_accepted, calls_of_handed}
-use Rattle.sync_provider.specs.Answering.Answered.{Wrote, Committed, CommittedEach, Accepts, HandedOut, Skipped, Dropped, LimitedLog, LimitedQueue}
+use Rattle.sync_provider.specs.Answering.Answered.{Wrote, Committed, CommittedEach, Accepts, HandedOut, Dropped, LimitedLog, LimitedQueue}
 use Rattle.sync_provider.specs.Machine.{ProviderState, after_judged, judged_by, run}
 use Rattle.sync_provider.specs.Machine.{ProviderCall as calls}
 use Rattle.sync_provider.specs.declared.handed.Handed.{Handed}
@@ -69,7 +69,6 @@ call_counts old new (CommittedEach commits now (Ok number)) is = is.state
 call_counts old new (CommittedEach commits now (Err fault)) is = is.err
 call_counts old new (Accepts ask result) is = accept_counts old new ask result is
 call_counts old new (HandedOut number result) is = hand_out_counts old new number result is
-call_counts old new (Skipped number) is = is
 call_counts old new (Dropped number result) is = is.state
 call_counts old new (LimitedLog limit) is = is
 call_counts old new (LimitedQueue limit) is = is

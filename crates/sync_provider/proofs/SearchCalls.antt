@@ -4,6 +4,7 @@ use Rattle.std.specs.Prelude.{Result, Ok, Err, option_map}
 use Rattle.std.specs.BTreeMap.{is_at}
 use Rattle.std.specs.Ordering.{nat_cmp}
 use Rattle.std.proofs.lemmas.List.{length_push}
+use Rattle.std.proofs.lemmas.Option.{none-some, same_Some}
 use Rattle.std.proofs.lemmas.Map.Made.{lookup-map_values}
 use Rattle.entry_tree.specs.declared.op.Op.{Op}
 use Rattle.entry_tree.specs.declared.op.Op.TheVariants.{Commit}
@@ -34,12 +35,6 @@ use Rattle.sync_provider.proofs.Tables.{gone}
 abbrev pub without_searches : ProviderState → ProviderState
 without_searches p = record p { searches = [] }
 
-never : (number : ℕ) → None ≡ Some number → ⊥
-never number is = cc
-
-inner : (one other : ℕ) → Some one ≡ Some other → one ≡ other
-inner one other is = cc
-
 -- ---- the rest of the provider
 
 -- its searches have no part in it
@@ -63,30 +58,30 @@ called_alike p q call alike = called_without p call ∙ ap (λ s. without_search
 
 -- and nothing where it is one of a search
 pub numbered_alike : (p : ProviderState) (call : ProviderCall) (number : ℕ) → number_of_call p call ≡ Some number → without_searches (called p call) ≡ without_searches p
-numbered_alike p (Writes op now) number is = absurd (never number is)
-numbered_alike p (Commits puts drops now) number is = absurd (never number is)
+numbered_alike p (Writes op now) number is = absurd (none-some number is)
+numbered_alike p (Commits puts drops now) number is = absurd (none-some number is)
 numbered_alike p (Accepts ask) number is = refl
 numbered_alike p (HandsOut other) number is = refl
 numbered_alike p (Drops other) number is = refl
-numbered_alike p (SetsLogLimit limit) number is = absurd (never number is)
-numbered_alike p (SetsQueueLimit limit) number is = absurd (never number is)
+numbered_alike p (SetsLogLimit limit) number is = absurd (none-some number is)
+numbered_alike p (SetsQueueLimit limit) number is = absurd (none-some number is)
 
 -- ---- a call of another search
 
 -- a call of a search leaves the others
 pub call_other : (p : ProviderState) (call : ProviderCall) (number n : ℕ) → number_of_call p call ≡ Some number → n ≢ number → search_at (called p call).searches n ≡ search_at p.searches n
-call_other p (Writes op now) number n is far = absurd (never number is)
-call_other p (Commits puts drops now) number n is far = absurd (never number is)
+call_other p (Writes op now) number n is far = absurd (none-some number is)
+call_other p (Commits puts drops now) number n is far = absurd (none-some number is)
 call_other p (Accepts ask) number n is far = by (answer_to p.directory p.searches ask) is
   where
     by : (answer : Accepted) → number_of_answer answer ≡ Some number → search_at (accepting.after_answer p.directory p.searches ask answer) n ≡ search_at p.searches n
-    by (Opened other writes) is = opened-other p.searches other n (asked p ask) (λ same. far (same ∙ inner other number is))
+    by (Opened other writes) is = opened-other p.searches other n (asked p ask) (λ same. far (same ∙ same_Some other number is))
     by (Refused code) is = refl
     by NoMemory is = refl
-call_other p (HandsOut other) number n is far = turn_other p.directory p.searches other n (turn_at p.directory p.searches other) (λ same. far (same ∙ inner other number is))
-call_other p (Drops other) number n is far = closed-other p.searches other n (λ same. far (same ∙ inner other number is))
-call_other p (SetsLogLimit limit) number n is far = absurd (never number is)
-call_other p (SetsQueueLimit limit) number n is far = absurd (never number is)
+call_other p (HandsOut other) number n is far = turn_other p.directory p.searches other n (turn_at p.directory p.searches other) (λ same. far (same ∙ same_Some other number is))
+call_other p (Drops other) number n is far = closed-other p.searches other n (λ same. far (same ∙ same_Some other number is))
+call_other p (SetsLogLimit limit) number n is far = absurd (none-some number is)
+call_other p (SetsQueueLimit limit) number n is far = absurd (none-some number is)
 
 -- ---- a call of this search
 
@@ -125,21 +120,21 @@ own_after p (SetsQueueLimit limit) found = found
 
 own_is : (p : ProviderState) (call : ProviderCall) (number : ℕ) → Ascends 0 p.searches → number_of_call p call ≡ Some number
     → search_at (called p call).searches number ≡ own_after (without_searches p) call (search_at p.searches number)
-own_is p (Writes op now) number ascends is = absurd (never number is)
-own_is p (Commits puts drops now) number ascends is = absurd (never number is)
+own_is p (Writes op now) number ascends is = absurd (none-some number is)
+own_is p (Commits puts drops now) number ascends is = absurd (none-some number is)
 own_is p (Accepts ask) number ascends is = by (answer_to p.directory p.searches ask) is
   where
     by : (answer : Accepted) → number_of_answer answer ≡ Some number → search_at (accepting.after_answer p.directory p.searches ask answer) number ≡ Some (asked p ask)
     by (Opened other writes) is =
-        ap (search_at (accepting.opened p.directory p.searches ask other)) (sym (inner other number is)) ∙ opened-same p.searches other (asked p ask)
-    by (Refused code) is = absurd (never number is)
-    by NoMemory is = absurd (never number is)
+        ap (search_at (accepting.opened p.directory p.searches ask other)) (sym (same_Some other number is)) ∙ opened-same p.searches other (asked p ask)
+    by (Refused code) is = absurd (none-some number is)
+    by NoMemory is = absurd (none-some number is)
 own_is p (HandsOut other) number ascends is =
-    subst (λ n. search_at (after_turn p.directory p.searches other (turn_at p.directory p.searches other)) n ≡ handed_from p.directory (search_at p.searches n)) (inner other number is) (own_turn p.directory p.searches other ascends)
+    subst (λ n. search_at (after_turn p.directory p.searches other (turn_at p.directory p.searches other)) n ≡ handed_from p.directory (search_at p.searches n)) (same_Some other number is) (own_turn p.directory p.searches other ascends)
 own_is p (Drops other) number ascends is =
-    subst (λ n. search_at (called p (Drops other)).searches n ≡ None) (inner other number is) (gone p.searches 0 other ascends)
-own_is p (SetsLogLimit limit) number ascends is = absurd (never number is)
-own_is p (SetsQueueLimit limit) number ascends is = absurd (never number is)
+    subst (λ n. search_at (called p (Drops other)).searches n ≡ None) (same_Some other number is) (gone p.searches 0 other ascends)
+own_is p (SetsLogLimit limit) number ascends is = absurd (none-some number is)
+own_is p (SetsQueueLimit limit) number ascends is = absurd (none-some number is)
 
 -- a call of one search does the same to it in two providers that differ in other searches alone
 pub call_own : (p q : ProviderState) (call : ProviderCall) (number : ℕ) → Ascends 0 p.searches → Ascends 0 q.searches → without_searches p ≡ without_searches q
@@ -183,11 +178,11 @@ all_is p (Commits puts drops now) n is = by (commit_refusal p.kind p.directory p
 all_is p (Accepts ask) n is = by (answer_to p.directory p.searches ask) is
   where
     by : (answer : Accepted) → number_of_answer answer ≡ None → search_at (accepting.after_answer p.directory p.searches ask answer) n ≡ search_at p.searches n
-    by (Opened other writes) is = absurd (never other (sym is))
+    by (Opened other writes) is = absurd (none-some other (sym is))
     by (Refused code) is = refl
     by NoMemory is = refl
-all_is p (HandsOut other) n is = absurd (never other (sym is))
-all_is p (Drops other) n is = absurd (never other (sym is))
+all_is p (HandsOut other) n is = absurd (none-some other (sym is))
+all_is p (Drops other) n is = absurd (none-some other (sym is))
 all_is p (SetsLogLimit limit) n is = refl
 all_is p (SetsQueueLimit limit) n is = refl
 
@@ -263,10 +258,10 @@ call_quiet p (Commits puts drops now) is still =
 call_quiet p (Accepts ask) is still = by (answer_to p.directory p.searches ask) is
   where
     by : (answer : Accepted) → number_of_answer answer ≡ None → accepting.after_answer p.directory p.searches ask answer ≡ p.searches
-    by (Opened other writes) is = absurd (never other (sym is))
+    by (Opened other writes) is = absurd (none-some other (sym is))
     by (Refused code) is = refl
     by NoMemory is = refl
-call_quiet p (HandsOut other) is still = absurd (never other (sym is))
-call_quiet p (Drops other) is still = absurd (never other (sym is))
+call_quiet p (HandsOut other) is still = absurd (none-some other (sym is))
+call_quiet p (Drops other) is still = absurd (none-some other (sym is))
 call_quiet p (SetsLogLimit limit) is still = refl
 call_quiet p (SetsQueueLimit limit) is still = refl

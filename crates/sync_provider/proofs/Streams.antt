@@ -141,7 +141,8 @@ module _ (limit : ℕ) (d : DirectoryState) (w : Write) (s : SearchState) (befor
         },
       )
 
-  search_notified_at_place : StandsAt d s before → StandsAt (with_write d w) (search_notified limit d w s) before
+  -- after a write it stands where it stood
+  pub search_notified_at_place : StandsAt d s before → StandsAt (with_write d w) (search_notified limit d w s) before
   search_notified_at_place place = by s.over refl
     where
       by : (over : Bool) → s.over ≡ over → StandsAt (with_write d w) (cond over s (noted (adds_too_much (limits_of limit) (sliced (with_write d w) s) (length d.writes) s.progress))) before

@@ -1,48 +1,82 @@
 -- What is pending of a search, and the open searches after a turn.
-use Rattle.std.proofs.Common.{◌≡◌, ◌+◌, ◌<◌, ◌≤◌, ℕ, zero, suc, Bool, true, false, cond, nat_le, arith, List, [], ◌∷◌, ◌++◌, length, drop, Option, Some, None, refl, ap, sym, ◌∙◌}
-use Rattle.std.specs.Prelude.{pos, slice_get}
+use Rattle.std.proofs.Common.{◌≡◌, ℕ, Bool, true, false, cond, List, [], ◌∷◌, ◌++◌, length, drop, Option, Some, None, refl, ap, sym, ◌∙◌}
+use Rattle.std.specs.Prelude.{pos, slice_get, not, ◌&&◌}
 use Rattle.std.specs.BTreeMap.{insert_entry, is_at}
 use Rattle.std.specs.Ordering.{nat_cmp}
-use Rattle.std.proofs.lemmas.Bool.{leb-false, false≢true, true≢false}
-use Rattle.std.proofs.lemmas.Bool.Decides.{nat_tests}
-use Rattle.std.proofs.lemmas.List.{drop_more, at_drop_all}
+use Rattle.std.proofs.lemmas.Bool.{false≢true, true≢false}
 use Rattle.std.proofs.lemmas.Map.Steps.{set_value_same}
-use Rattle.std.proofs.lemmas.Option.{slice_get_within, get_or_from_slice_get}
-use Rattle.ldap_constants.specs.declared.result_codes.TheConstants.{SUCCESS, BUSY}
+use Rattle.ldap_constants.specs.declared.result_codes.TheConstants.{BUSY, SUCCESS}
 use Rattle.sync_model.specs.Law.{is_nil}
 use Rattle.sync_model.specs.Message.{CookieText, SyncMessage}
 use Rattle.sync_model.specs.Message.SyncMessage.{AddOrModify, Delete, Present, IdSet, NewCookie, RefreshDelete, RefreshPresent, Done, Ignored}
 use Rattle.sync_model.specs.Stream.{end_of}
+use Rattle.ldap_messages.specs.Whole.{MessageValue}
 use Rattle.sync_wire.specs.Sending.{sent}
-use Rattle.sync_slices.specs.Slices.{SliceProgress, coming_by, ready_from, without_first}
+use Rattle.sync_slices.specs.Slices.{SliceProgress, coming_by, ready_from, made_ready, without_first}
+use Rattle.sync_slices.proofs.Deciding.{ready_pending}
 use Rattle.directory_writes.specs.Directory.{DirectoryState}
 use Rattle.directory_writes.proofs.Keyed.{kept_at, closed_at, put_on}
-use Rattle.sync_provider.specs.HandingOut.{HandOut, turn_of_message, turn_of_pending, turn_at, has_message, search_at, is_closing, after_own_turn, handed_on, after_a_turn}
+use Rattle.sync_provider.specs.HandingOut.{HandOut, ended_or_on, turn_of_message, turn_of_pending, turn_at, has_message, search_at, is_closing, is_going_on, after_own_turn, handed_on, after_a_turn}
 use Rattle.sync_provider.specs.HandingOut.HandOut.{Hands, Closes, Waits, Unknown}
-use Rattle.sync_provider.specs.Search.{SearchState, sliced, busy_end, pending, advanced, is_end, message_of, messages_of, first_of}
+use Rattle.sync_provider.specs.RefreshEnds.{IsEndOf}
+use Rattle.sync_provider.specs.Search.{SearchState, sliced, busy_end, pending, advanced, is_end}
 use Rattle.sync_provider.specs.Staging.{HeldSearch, searches_of}
-use Rattle.sync_provider.specs.declared.refresh_item.RefreshItem.{RefreshItem}
-use Rattle.sync_provider.specs.declared.refresh_item.RefreshItem.TheVariants as part
 use Rattle.sync_provider.proofs.Kept.{hands}
-use Rattle.sync_provider.proofs.SearchNotified.{pending_over}
+use Rattle.sync_provider.proofs.Pieces.{made_due, made_some, made_there, ready_by}
+use Rattle.sync_provider.proofs.Places.{positive}
+use Rattle.sync_provider.proofs.SearchNotified.{pending_open, pending_over}
 use Rattle.sync_provider.proofs.Held.{search_found, turn_found, held_closed, held_put}
 
--- ---- what is left of a refresh
+-- ---- the turn of a message
 
--- the first part
-pub first_part : (persists deletes : Bool) (parts : List RefreshItem) (handed : ℕ) (p : RefreshItem) (cookie : CookieText) → slice_get parts handed ≡ Some p
-    → first_of persists deletes (drop handed parts) cookie ≡ message_of deletes p
-first_part persists deletes parts handed p cookie at =
-    ap (λ ps. first_of persists deletes ps cookie)
-    (drop_more parts handed p (slice_get_within parts handed p at)
-    ∙ ap (λ first. first ∷ drop (handed + 1) parts) (get_or_from_slice_get parts handed p p at))
+-- the end of a refresh ends its search, or is a message after which it goes on
+end_turns : (persists deletes : Bool) (cookie : CookieText) (id : ℕ) → turn_of_message id (end_of persists deletes cookie) ≡ ended_or_on (not persists) id (end_of persists deletes cookie)
+end_turns true true cookie id = refl
+end_turns true false cookie id = refl
+end_turns false deletes cookie id = refl
 
--- its end, where no part is left
-pub first_end : (persists deletes : Bool) (parts : List RefreshItem) (handed : ℕ) (cookie : CookieText) → length parts ≤ handed
-    → first_of persists deletes (drop handed parts) cookie ≡ end_of persists deletes cookie
-first_end persists deletes parts handed cookie all = at_drop_all (λ ps. first_of persists deletes ps cookie) parts handed all
+pub end_closes : (closes : Bool) (message : SyncMessage) (id : ℕ) → IsEndOf (not closes) message → turn_of_message id message ≡ ended_or_on closes id message
+end_closes closes message id is =
+    ap (turn_of_message id) is.is
+    ∙ end_turns (not closes) is.deletes is.cookie id
+    ∙ ap (λ b. ended_or_on b id (end_of (not closes) is.deletes is.cookie)) (twice closes)
+    ∙ ap (ended_or_on closes id) (sym is.is)
+  where
+    twice : (b : Bool) → not (not b) ≡ b
+    twice true = refl
+    twice false = refl
 
--- ---- the turn of a search
+-- ---- the turn of the first message
+
+-- there is none
+pub first_waits : (id : ℕ) (ms : List SyncMessage) → None ≡ slice_get ms 0 → Waits ≡ turn_of_pending id ms
+first_waits id [] is = refl
+first_waits id (m ∷ ms) is = absurd (cc)
+
+-- there is one
+pub first_some : (ms : List SyncMessage) (m : SyncMessage) → Some m ≡ slice_get ms 0 → is_nil ms ≡ false
+first_some [] m is = absurd (cc)
+first_some (x ∷ ms) m is = refl
+
+first_turn : (id : ℕ) (ms : List SyncMessage) (m : SyncMessage) → Some m ≡ slice_get ms 0 → turn_of_message id m ≡ turn_of_pending id ms
+first_turn id [] m is = absurd (cc)
+first_turn id (x ∷ ms) m is = ap (turn_of_message id) same
+  where
+    same : m ≡ x
+    same = cc
+
+-- it ends its search, or not
+pub first_ends : (id : ℕ) (ms : List SyncMessage) (m : SyncMessage) (closes : Bool) (value : MessageValue) → Some m ≡ slice_get ms 0 → turn_of_message id m ≡ ended_or_on closes id m → value ≡ sent id m → closes ≡ true
+    → Closes (pos SUCCESS) value ≡ turn_of_pending id ms
+first_ends id ms m closes value is turn made on =
+    ap (Closes (pos SUCCESS)) made ∙ ap (λ b. ended_or_on b id m) (sym on) ∙ sym turn ∙ first_turn id ms m is
+
+pub first_goes : (id : ℕ) (ms : List SyncMessage) (m : SyncMessage) (closes : Bool) (value : MessageValue) → Some m ≡ slice_get ms 0 → turn_of_message id m ≡ ended_or_on closes id m → value ≡ sent id m → closes ≡ false
+    → Hands value ≡ turn_of_pending id ms
+first_goes id ms m closes value is turn made off =
+    ap Hands made ∙ ap (λ b. ended_or_on b id m) (sym off) ∙ sym turn ∙ first_turn id ms m is
+
+-- ---- what is pending
 
 -- what is pending of a search whose pieces are all decided, by what is left of its refresh
 pub pending_settled : (d : DirectoryState) (s : SearchState) (rest : List SyncMessage) → s.over ≡ false → s.progress.left ≡ [] → s.progress.rest ≡ rest → pending d s ≡ rest ++ s.progress.due
@@ -64,45 +98,123 @@ over_turn d s on = ap (turn_of_pending s.id) (pending_over d s on)
 turn_of_rest : (d : DirectoryState) (s : SearchState) (rest : List SyncMessage) → s.over ≡ false → s.progress.left ≡ [] → s.progress.rest ≡ rest → turn_now d s ≡ turn_of_pending s.id (rest ++ s.progress.due)
 turn_of_rest d s rest off settled is = ap (turn_of_pending s.id) (pending_settled d s rest off settled is)
 
--- a part of a refresh is handed out
-pub part_hands : (id : ℕ) (deletes : Bool) (p : RefreshItem) → turn_of_message id (message_of deletes p) ≡ Hands (sent id (message_of deletes p))
-part_hands id deletes (part.Whole entry) = refl
-part_hands id deletes (part.Names uuids) = refl
+-- ---- in a refresh
 
--- in a refresh the first part that is left
-pub part_turn : (d : DirectoryState) (s : SearchState) (persists deletes : Bool) (parts : List RefreshItem) (cookie : CookieText) → s.over ≡ false → s.progress.left ≡ [] → s.progress.rest ≡ messages_of persists deletes parts cookie → is_nil parts ≡ false
-    → turn_of_pending s.id (pending d s) ≡ Hands (sent s.id (first_of persists deletes parts cookie))
-part_turn d s persists deletes [] cookie off settled is some = absurd (true≢false some)
-part_turn d s persists deletes (p ∷ parts) cookie off settled is some = turn_of_rest d s (messages_of persists deletes (p ∷ parts) cookie) off settled is ∙ part_hands s.id deletes p
+-- where a message of it is there, that one is the first
+pub rest_turn : (d : DirectoryState) (s : SearchState) → s.over ≡ false → is_nil s.progress.rest ≡ false → turn_of_pending s.id (pending d s) ≡ turn_of_pending s.id s.progress.rest
+rest_turn d s off some = ap (turn_of_pending s.id) (pending_open d s off) ∙ by s.progress.rest some
+  where
+    beyond : List SyncMessage
+    beyond = coming_by s.progress.left (sliced d s) (length d.writes) s.progress ++ s.progress.due
+
+    by : (rest : List SyncMessage) → is_nil rest ≡ false → turn_of_pending s.id (rest ++ beyond) ≡ turn_of_pending s.id rest
+    by [] some = absurd (true≢false some)
+    by (m ∷ rest) some = refl
 
 -- which is not left then
-pub part_state : (d : DirectoryState) (s : SearchState) (persists deletes : Bool) (parts : List RefreshItem) (cookie : CookieText) → s.progress.left ≡ [] → s.progress.rest ≡ messages_of persists deletes parts cookie → is_nil parts ≡ false
-    → advanced d s ≡ record s { progress = record s.progress { rest = messages_of persists deletes (drop 1 parts) cookie } }
-part_state d s persists deletes [] cookie settled is some = absurd (true≢false some)
-part_state d s persists deletes (p ∷ parts) cookie settled is some = advanced_settled d s settled ∙ ap (λ rest. record s { progress = without_first s.progress rest s.progress.due }) is
+pub rest_state : (d : DirectoryState) (s : SearchState) → is_nil s.progress.rest ≡ false → advanced d s ≡ record s { progress = record s.progress { rest = drop 1 s.progress.rest } }
+rest_state d s some =
+    ap (λ (now : SliceProgress). record s { progress = without_first now now.rest now.due }) (made_there (sliced d s) (length d.writes) s.progress (ready_by s.progress here))
+    ∙ by s.progress.rest some
+  where
+    here : (is_nil s.progress.rest && not (is_nil s.progress.left)) ≡ false
+    here = ap (λ b. b && not (is_nil s.progress.left)) some
 
--- the end of the refresh of a search that goes on is a message that leaves the search open
-pub end_hands : (id : ℕ) (deletes : Bool) (cookie : CookieText) → turn_of_message id (end_of true deletes cookie) ≡ Hands (sent id (end_of true deletes cookie))
-end_hands id true cookie = refl
-end_hands id false cookie = refl
+    by : (rest : List SyncMessage) → is_nil rest ≡ false → record s { progress = without_first s.progress rest s.progress.due } ≡ record s { progress = record s.progress { rest = drop 1 rest } }
+    by [] some = absurd (true≢false some)
+    by (m ∷ rest) some = refl
 
--- after the parts the end of the refresh, where the search goes on
-pub end_turn : (d : DirectoryState) (s : SearchState) (deletes : Bool) (parts : List RefreshItem) (cookie : CookieText) → s.over ≡ false → s.progress.left ≡ [] → s.progress.rest ≡ messages_of true deletes parts cookie → is_nil parts ≡ true
-    → turn_of_pending s.id (pending d s) ≡ Hands (sent s.id (first_of true deletes parts cookie))
-end_turn d s deletes [] cookie off settled is none = turn_of_rest d s (messages_of true deletes [] cookie) off settled is ∙ end_hands s.id deletes cookie
-end_turn d s deletes (p ∷ parts) cookie off settled is none = absurd (false≢true none)
+-- ---- where pieces have to be decided
 
--- after which nothing is left of the refresh
-pub end_state : (d : DirectoryState) (s : SearchState) (persists deletes : Bool) (parts : List RefreshItem) (cookie : CookieText) → s.progress.left ≡ [] → s.progress.rest ≡ messages_of persists deletes parts cookie → is_nil parts ≡ true
-    → advanced d s ≡ record s { progress = record s.progress { rest = [] } }
-end_state d s persists deletes [] cookie settled is none = advanced_settled d s settled ∙ ap (λ rest. record s { progress = without_first s.progress rest s.progress.due }) is
-end_state d s persists deletes (p ∷ parts) cookie settled is none = absurd (false≢true none)
+-- the search with these decided
+abbrev pub readied : DirectoryState → SearchState → SearchState
+readied d s = record s { progress = made_ready (sliced d s) (length d.writes) s.progress }
 
--- or the end of the search
-pub last_turn : (d : DirectoryState) (s : SearchState) (deletes : Bool) (parts : List RefreshItem) (cookie : CookieText) → s.over ≡ false → s.progress.left ≡ [] → s.progress.rest ≡ messages_of false deletes parts cookie → is_nil parts ≡ true
-    → turn_of_pending s.id (pending d s) ≡ Closes (pos SUCCESS) (sent s.id (first_of false deletes parts cookie))
-last_turn d s deletes [] cookie off settled is none = turn_of_rest d s (messages_of false deletes [] cookie) off settled is
-last_turn d s deletes (p ∷ parts) cookie off settled is none = absurd (false≢true none)
+-- what is due stays beside it
+pub made_beside : (d : DirectoryState) (s : SearchState) (was ready : SliceProgress) (due : List SyncMessage) → s.progress ≡ record was { due = due } → ready ≡ made_ready (sliced d s) (length d.writes) was
+    → record ready { due = due } ≡ (readied d s).progress
+made_beside d s was ready due is made =
+    ap (λ (p : SliceProgress). record p { due = due }) made
+    ∙ sym (made_due (sliced d s) (length d.writes) was due)
+    ∙ ap (made_ready (sliced d s) (length d.writes)) (sym is)
+
+-- it has a message of its refresh
+pub readied_some : (d : DirectoryState) (s : SearchState) → is_nil s.progress.left ≡ false → is_nil (readied d s).progress.rest ≡ false
+readied_some d s waits = made_some (sliced d s) (length d.writes) (positive d s) s.progress waits
+
+-- and the same pending
+readied_pending : (d : DirectoryState) (s : SearchState) → s.over ≡ false → pending d (readied d s) ≡ pending d s
+readied_pending d s off =
+    pending_open d (readied d s) off ∙ ready_pending (sliced d s) (length s.progress.left) (length d.writes) s.progress ∙ sym (pending_open d s off)
+
+-- its first message is that of what it has
+pub readied_turn : (d : DirectoryState) (s : SearchState) → s.over ≡ false → is_nil s.progress.left ≡ false → turn_of_pending s.id (readied d s).progress.rest ≡ turn_of_pending s.id (pending d s)
+readied_turn d s off waits = sym (rest_turn d (readied d s) off (readied_some d s waits)) ∙ ap (turn_of_pending s.id) (readied_pending d s off)
+
+-- without which it is as it is after its turn
+pub readied_state : (d : DirectoryState) (s : SearchState) → is_nil s.progress.left ≡ false
+    → record s { progress = record (readied d s).progress { rest = drop 1 (readied d s).progress.rest } } ≡ advanced d s
+readied_state d s waits = by (readied d s).progress.rest refl (readied_some d s waits)
+  where
+    ready : SliceProgress
+    ready = (readied d s).progress
+
+    by : (rest : List SyncMessage) → ready.rest ≡ rest → is_nil rest ≡ false → record s { progress = record ready { rest = drop 1 rest } } ≡ record s { progress = without_first ready rest ready.due }
+    by [] is some = absurd (true≢false some)
+    by (m ∷ rest) is some = refl
+
+-- the first message of the pieces that are decided aside is the one that is pending first
+pub next_turn : (d : DirectoryState) (s : SearchState) (ready : SliceProgress) (due : List SyncMessage) → s.over ≡ false → is_nil s.progress.left ≡ false
+    → record ready { due = due } ≡ (readied d s).progress → turn_of_pending s.id ready.rest ≡ turn_of_pending s.id (pending d s)
+next_turn d s ready due off waits made = ap (λ (p : SliceProgress). turn_of_pending s.id p.rest) made ∙ readied_turn d s off waits
+
+-- ---- the search after its turn
+
+-- it stays where nothing is handed out after which it goes on
+pub stays_after : (d : DirectoryState) (s : SearchState) (turn : Option HandOut) → is_going_on turn ≡ false → s ≡ after_own_turn d s turn
+stays_after d s None off = refl
+stays_after d s (Some (Hands message)) off = absurd (true≢false off)
+stays_after d s (Some (Closes code message)) off = refl
+stays_after d s (Some Waits) off = refl
+stays_after d s (Some Unknown) off = refl
+
+goes_after : (d : DirectoryState) (s : SearchState) (turn : Option HandOut) → is_going_on turn ≡ true → advanced d s ≡ after_own_turn d s turn
+goes_after d s None on = absurd (false≢true on)
+goes_after d s (Some (Hands message)) on = refl
+goes_after d s (Some (Closes code message)) on = absurd (false≢true on)
+goes_after d s (Some Waits) on = absurd (false≢true on)
+goes_after d s (Some Unknown) on = absurd (false≢true on)
+
+-- where a message of its refresh was there
+pub handed_after : (d : DirectoryState) (s : SearchState) (was now : SliceProgress) (due : List SyncMessage) (turn : Option HandOut) → s.progress ≡ record was { due = due } → is_nil s.progress.rest ≡ false
+    → now ≡ cond (is_going_on turn) (record was { rest = drop 1 was.rest }) was → record s { progress = record now { due = due } } ≡ after_own_turn d s turn
+handed_after d s was now due turn is some then = by (is_going_on turn) refl
+  where
+    progress : Bool → SliceProgress
+    progress b = cond b (record was { rest = drop 1 was.rest }) was
+
+    by : (b : Bool) → is_going_on turn ≡ b → record s { progress = record now { due = due } } ≡ after_own_turn d s turn
+    by true on =
+        ap (λ (p : SliceProgress). record s { progress = record p { due = due } }) (then ∙ ap progress on)
+        ∙ ap (λ (p : SliceProgress). record s { progress = record p { rest = drop 1 p.rest } }) (sym is)
+        ∙ sym (rest_state d s some)
+        ∙ goes_after d s turn on
+    by false off =
+        ap (λ (p : SliceProgress). record s { progress = record p { due = due } }) (then ∙ ap progress off)
+        ∙ ap (λ (p : SliceProgress). record s { progress = p }) (sym is)
+        ∙ stays_after d s turn off
+
+-- where pieces were decided for it
+pub next_after : (d : DirectoryState) (s : SearchState) (ready now : SliceProgress) (due : List SyncMessage) (turn : Option HandOut) → is_nil s.progress.left ≡ false
+    → record ready { due = due } ≡ (readied d s).progress → now ≡ cond (is_going_on turn) (record ready { rest = drop 1 ready.rest }) ready → is_going_on turn ≡ true
+    → record s { progress = record now { due = due } } ≡ after_own_turn d s turn
+next_after d s ready now due turn waits made then on =
+    ap (λ (p : SliceProgress). record s { progress = record p { due = due } }) (then ∙ ap (λ b. cond b (record ready { rest = drop 1 ready.rest }) ready) on)
+    ∙ ap (λ (p : SliceProgress). record s { progress = record p { rest = drop 1 p.rest } }) made
+    ∙ readied_state d s waits
+    ∙ goes_after d s turn on
+
+-- ---- after a refresh
 
 -- the first message of later writes, once the refresh is handed out
 pub later_turn : (d : DirectoryState) (s : SearchState) (m : SyncMessage) → s.over ≡ false → s.progress.left ≡ [] → s.progress.rest ≡ [] → slice_get s.progress.due 0 ≡ Some m → is_end m ≡ false → turn_of_pending s.id (pending d s) ≡ Hands (sent s.id m)
@@ -151,13 +263,22 @@ message_there id Ignored = refl
 pub over_has_message : (d : DirectoryState) (s : SearchState) → s.over ≡ true → has_message (turn_of_pending s.id (pending d s)) ≡ true
 over_has_message d s on = ap has_message (over_turn d s on)
 
--- of what is left of a refresh
-pub rest_has_message : (d : DirectoryState) (s : SearchState) (persists deletes : Bool) (parts : List RefreshItem) (cookie : CookieText) → s.over ≡ false → s.progress.left ≡ [] → s.progress.rest ≡ messages_of persists deletes parts cookie
-    → has_message (turn_of_pending s.id (pending d s)) ≡ true
-rest_has_message d s persists deletes [] cookie off settled is =
-    ap has_message (turn_of_rest d s (messages_of persists deletes [] cookie) off settled is) ∙ message_there s.id (end_of persists deletes cookie)
-rest_has_message d s persists deletes (p ∷ parts) cookie off settled is =
-    ap has_message (turn_of_rest d s (messages_of persists deletes (p ∷ parts) cookie) off settled is) ∙ message_there s.id (message_of deletes p)
+-- of what is pending where something is
+pub some_has_message : (id : ℕ) (ms : List SyncMessage) → is_nil ms ≡ false → has_message (turn_of_pending id ms) ≡ true
+some_has_message id [] some = absurd (true≢false some)
+some_has_message id (m ∷ ms) some = message_there id m
+
+-- of a search in its refresh
+pub left_has_message : (d : DirectoryState) (s : SearchState) → s.over ≡ false → is_nil s.progress.left ≡ false → has_message (turn_of_pending s.id (pending d s)) ≡ true
+left_has_message d s off left = ap has_message (sym (readied_turn d s off left)) ∙ some_has_message s.id (readied d s).progress.rest (readied_some d s left)
+
+pub rest_has_message : (d : DirectoryState) (s : SearchState) → s.over ≡ false → is_nil s.progress.rest ≡ false → has_message (turn_of_pending s.id (pending d s)) ≡ true
+rest_has_message d s off some = ap has_message (rest_turn d s off some) ∙ some_has_message s.id s.progress.rest some
+
+-- a turn without a message is one of nothing pending
+pub nothing_there : (id : ℕ) (ms : List SyncMessage) → Waits ≡ turn_of_pending id ms → ms ≡ []
+nothing_there id [] waits = refl
+nothing_there id (m ∷ ms) waits = absurd (false≢true (ap has_message waits ∙ message_there id m))
 
 -- of later writes
 pub due_has_message : (d : DirectoryState) (s : SearchState) (m : SyncMessage) → s.over ≡ false → s.progress.left ≡ [] → s.progress.rest ≡ [] → slice_get s.progress.due 0 ≡ Some m → has_message (turn_of_pending s.id (pending d s)) ≡ true
@@ -198,31 +319,3 @@ pub open_after : (d : DirectoryState) (es : List (ℕ × HeldSearch)) (k : ℕ) 
     → new.search ≡ after_own_turn d old.search turn → is_closing turn ≡ false → searches_of (insert_entry nat_cmp (closed_at es k) k new) ≡ after_a_turn d (searches_of es) k turn
 open_after d es k old new turn found again same h =
     ap searches_of (again new) ∙ held_put es k new ∙ ap (put_on (searches_of es) k) same ∙ open_by d (searches_of es) k old.search turn (search_found es k old found) h
-
--- ---- the end of a refresh
-
--- it has come where no part is left
-pub end_is : {X : Type 0} (xs : List X) (k : ℕ) → nat_le (length xs) k ≡ is_nil (drop k xs)
-end_is [] zero = refl
-end_is [] (suc k) = grind (arith, nat_tests)
-end_is (x ∷ xs) zero = grind (arith, nat_tests)
-end_is (x ∷ xs) (suc k) = grind (arith, nat_tests, end_is xs k)
-
--- it has not where one is
-pub not_end : {X : Type 0} (xs : List X) (k : ℕ) → is_nil (drop k xs) ≡ false → k < length xs
-not_end xs k h = by (nat_le (length xs) k) refl
-  where
-    by : (b : Bool) → nat_le (length xs) k ≡ b → k < length xs
-    by true is = absurd (false≢true (sym h ∙ sym (end_is xs k) ∙ is))
-    by false is = leb-false (length xs) k is
-
--- nothing is left of nothing
-pub drop_none : {X : Type 0} (k : ℕ) → drop {A = X} k [] ≡ []
-drop_none zero = refl
-drop_none (suc k) = refl
-
--- one part fewer is left
-pub drop_one : {X : Type 0} (xs : List X) (k : ℕ) → drop (k + 1) xs ≡ drop 1 (drop k xs)
-drop_one [] k = drop_none (k + 1) ∙ sym (ap (λ l. drop 1 l) (drop_none k))
-drop_one (x ∷ xs) zero = refl
-drop_one (x ∷ xs) (suc k) = let more : suc k + 1 ≡ suc (k + 1) = omega arith in ap (λ n. drop n (x ∷ xs)) more ∙ drop_one xs k

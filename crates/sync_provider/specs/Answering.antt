@@ -1,5 +1,5 @@
 -- What the calls of a provider answer, and what they leave. Each call says so of itself by its
--- clause `leaves`, but for `skip` and the changes of limits, whose only clause is what stands here.
+-- clause `leaves`, but for the changes of limits, whose only clause is what stands here.
 use Rattle.std.specs.Prelude.{◌≡◌, ◌≢◌, ◌↔◌, ℕ, ◌+◌, Bool, true, cond, nat_eq, List, [], ◌∷◌, length, flat_map, None, is_some, Result, Ok, Err, IfOk, IfErr, IfSome, OnOk, OnErr, IsErrOf}
 use Rattle.ldap_constants.specs.declared.result_codes.TheConstants.{SUCCESS, OTHER}
 use Rattle.entry_tree.specs.declared.entry.Entry.{Entry}
@@ -7,7 +7,7 @@ use Rattle.entry_tree.specs.declared.op.Op.{Op}
 use Rattle.sync_provider.specs.Accepting as accepting
 use Rattle.sync_provider.specs.Committing.{commit_refusal, RejectsCommit}
 use Rattle.sync_provider.specs.HandingOut as handing
-use Rattle.sync_provider.specs.Machine.{ProviderState, ProviderCall, wrote, write_code, committed, commit_calls, committed_each, refusal_of_each, handed_out, dropped, log_limited, queue_limited, run}
+use Rattle.sync_provider.specs.Machine.{ProviderState, ProviderCall, wrote, write_code, committed, commit_calls, committed_each, refusal_of_each, dropped, log_limited, queue_limited, run}
 use Rattle.sync_provider.specs.Machine.{ProviderCall as calls}
 use Rattle.sync_provider.specs.declared.committing.StagedCommit.{StagedCommit}
 use Rattle.sync_provider.specs.declared.handed.Handed.{Handed}
@@ -85,7 +85,6 @@ pub data Answered : Type 0 where
   CommittedEach : (commits : List StagedCommit) (now : ℕ) (result : Result ℕ CommitFault) → Answered
   Accepts : (ask : SyncSearch) (result : Accepted) → Answered
   HandedOut : (number : ℕ) (result : Handed) → Answered
-  Skipped : (number : ℕ) → Answered
   Dropped : (number : ℕ) (result : Bool) → Answered
   LimitedLog : (limit : ℕ) → Answered
   LimitedQueue : (limit : ℕ) → Answered
@@ -97,7 +96,6 @@ MayLeave old (Committed puts drops now result) new = CommitLeaves old puts drops
 MayLeave old (CommittedEach commits now result) new = CommitsLeave old commits now result new
 MayLeave old (Accepts ask result) new = AcceptLeaves old ask result new
 MayLeave old (HandedOut number result) new = HandOutLeaves old number result new
-MayLeave old (Skipped number) new = new ≡ handed_out old number
 MayLeave old (Dropped number result) new = DropLeaves old number result new
 MayLeave old (LimitedLog limit) new = new ≡ log_limited old limit
 MayLeave old (LimitedQueue limit) new = new ≡ queue_limited old limit
@@ -135,7 +133,6 @@ calls_of (Committed puts drops now result) =
 calls_of (CommittedEach commits now result) = calls_of_result (commit_calls commits now) result
 calls_of (Accepts ask result) = calls_of_accepted ask result
 calls_of (HandedOut number result) = calls_of_handed number result
-calls_of (Skipped number) = calls.HandsOut number ∷ []
 calls_of (Dropped number result) = calls.Drops number ∷ []
 calls_of (LimitedLog limit) = calls.SetsLogLimit limit ∷ []
 calls_of (LimitedQueue limit) = calls.SetsQueueLimit limit ∷ []

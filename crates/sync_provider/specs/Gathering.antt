@@ -1,25 +1,36 @@
 -- How what is decided is gathered into messages (RFC 4533, section 3.3.2).
-use Rattle.std.specs.Prelude.{◌≡◌, ℕ, Bool, List, [], ◌++◌, map}
-use Rattle.sync_model.specs.Stream.{WalkDecision, whole, left_over, gathered}
-use Rattle.sync_provider.specs.Search.{message_of}
-use Rattle.sync_provider.specs.declared.refresh_item.RefreshItem.{RefreshItem}
+use Rattle.std.specs.Prelude.{◌≡◌, ℕ, Bool, true, false, cond, List, [], ◌∷◌, ◌++◌, None}
+use Rattle.sync_model.specs.Message.{SyncMessage}
+use Rattle.sync_model.specs.Message.SyncMessage.{RefreshPresent}
+use Rattle.sync_model.specs.Stream.{WalkDecision, whole, left_over}
 
--- the messages so far, and the names that wait for a set to be full
+-- whether names are those of deleted entries, the messages so far, and the names that wait for a
+-- set to be full
 pub record Gathered : Type 0 where
-  pub parts : List RefreshItem
+  pub deletes : Bool
+  pub messages : List SyncMessage
   pub names : List ℕ
 
--- the messages of these decisions that are whole, and the names that are left over
-pub record IsGathered (decisions : List WalkDecision) (g : Gathered) : Type 0 where
-  pub parts : (deletes : Bool) → map (message_of deletes) g.parts ≡ whole deletes [] decisions
-  pub names : g.names ≡ left_over [] decisions
+-- the whole messages of these decisions come after those that are gathered
+pub record Gathers (decisions : List WalkDecision) (old new : Gathered) : Type 0 where
+  pub deletes : new.deletes ≡ old.deletes
+  pub messages : new.messages ≡ old.messages ++ whole old.deletes old.names decisions
+  pub names : new.names ≡ left_over old.names decisions
 
--- these decisions come after those that are gathered
-abbrev pub Gathers : List WalkDecision → Gathered → Gathered → Type 0
-Gathers more old new =
-    (decisions : List WalkDecision) → IsGathered decisions old → IsGathered (decisions ++ more) new
+-- these messages come after them, and no name is left over
+pub record Adds (more : List SyncMessage) (old new : Gathered) : Type 0 where
+  pub deletes : new.deletes ≡ old.deletes
+  pub messages : new.messages ≡ old.messages ++ more
+  pub names : new.names ≡ []
 
--- all messages of these decisions
-abbrev pub AreOf : List WalkDecision → List RefreshItem → Type 0
-AreOf decisions parts =
-    (deletes : Bool) → map (message_of deletes) parts ≡ gathered deletes decisions
+-- names are those of deleted entries then; where they were those of present ones, the present phase
+-- ends before
+pub record TurnsToDeletes (old new : Gathered) : Type 0 where
+  pub deletes : new.deletes ≡ true
+  pub messages : new.messages ≡ old.messages ++ cond old.deletes [] (RefreshPresent false None ∷ [])
+  pub names : new.names ≡ []
+
+-- these messages come after those that are gathered, whatever names are those of then
+pub record AddsLast (more : List SyncMessage) (old new : Gathered) : Type 0 where
+  pub messages : new.messages ≡ old.messages ++ more
+  pub names : new.names ≡ []

@@ -1,8 +1,9 @@
 -- What is handed out of a search.
-use Rattle.std.specs.Prelude.{ℕ, Bool, true, false, ℤ, pos, List, [], ◌∷◌, drop, Option, Some, None}
+use Rattle.std.specs.Prelude.{ℕ, Bool, true, false, ℤ, pos, List, [], ◌∷◌, Option, Some, None}
 use Rattle.std.specs.Ordering.{nat_cmp}
 use Rattle.std.specs.Map.{lookup, remove_entry, set_value}
 use Rattle.std.specs.BTreeMap.{is_at}
+use Rattle.ldap_constants.specs.declared.result_codes.TheConstants.{SUCCESS}
 use Rattle.ldap_messages.specs.Whole.{MessageValue, message_value}
 use Rattle.sync_model.specs.Message.{SyncMessage}
 use Rattle.sync_model.specs.Message.SyncMessage.{AddOrModify, Delete, Present, IdSet, NewCookie, RefreshDelete, RefreshPresent, Done, Ignored}
@@ -36,6 +37,11 @@ turn_of_message id (RefreshPresent done cookie) = Hands (sent id (RefreshPresent
 turn_of_message id (Done code control) = Closes code (sent id (Done code control))
 turn_of_message id Ignored = Hands (sent id Ignored)
 
+-- a message with which its search ends with success, or after which it goes on
+abbrev pub ended_or_on : (closes : Bool) → ℕ → SyncMessage → HandOut
+ended_or_on true id message = Closes (pos SUCCESS) (sent id message)
+ended_or_on false id message = Hands (sent id message)
+
 -- the message that is pending first is handed out
 abbrev pub turn_of_pending : ℕ → List SyncMessage → HandOut
 turn_of_pending id [] = Waits
@@ -51,14 +57,6 @@ search_at searches number = lookup (is_at (nat_cmp number)) searches
 -- the turn of the search with this number
 abbrev pub turn_at : DirectoryState → List (ℕ × SearchState) → ℕ → HandOut
 turn_at d searches number = turn_of_found d (search_at searches number)
-
--- the turn of the message with n before it of those that are pending
-abbrev pub turn_of_place : DirectoryState → ℕ → Option SearchState → HandOut
-turn_of_place d place None = Unknown
-turn_of_place d place (Some s) = turn_of_pending s.id (drop place (pending d s))
-
-abbrev pub turn_at_place : DirectoryState → List (ℕ × SearchState) → ℕ → ℕ → HandOut
-turn_at_place d searches number place = turn_of_place d place (search_at searches number)
 
 -- there is a message in it, which has to be written
 abbrev pub has_message : HandOut → Bool
@@ -82,6 +80,14 @@ is_closing (Some (Hands message)) = false
 is_closing (Some (Closes code message)) = true
 is_closing (Some Waits) = false
 is_closing (Some Unknown) = false
+
+-- it is a message after which the search goes on
+abbrev pub is_going_on : Option HandOut → Bool
+is_going_on None = false
+is_going_on (Some (Hands message)) = true
+is_going_on (Some (Closes code message)) = false
+is_going_on (Some Waits) = false
+is_going_on (Some Unknown) = false
 
 -- the reply that no more messages follow; none, where no more were asked for
 abbrev pub reply_of : HandOutStop → Option Handed

@@ -13,8 +13,11 @@ pub mod Ports
 pub mod Placing
 pub mod Queueing
 pub mod ReadyCommits
+pub mod RefreshEnds
 pub mod Refreshing
 pub mod Returning
 pub mod Search
 pub mod Searching
+pub mod StagedGroups
 pub mod Staging
+pub mod Walks

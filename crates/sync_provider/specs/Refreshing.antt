@@ -1,5 +1,5 @@
 -- The refresh of a search, as its parts are decided.
-use Rattle.std.specs.Prelude.{ℕ, false, List, [], ◌∷◌, length, Option, Some, None}
+use Rattle.std.specs.Prelude.{◌≡◌, ℕ, Bool, true, false, cond, List, [], ◌∷◌, ◌++◌, length, map, Option, Some, None}
 use Rattle.std.specs.List.{flat_map}
 use Rattle.entry_tree.specs.declared.entry.Entry.{Entry}
 use Rattle.entry_tree.specs.History.{state_of, touched_over}
@@ -11,11 +11,14 @@ use Rattle.refresh_present.specs.declared.decision.Decision as decision
 use Rattle.refresh_present.specs.declared.decision.Decision.TheVariants.{Send, Present, Delete}
 use Rattle.refresh_present.specs.Present as presents
 use Rattle.refresh_delete.specs.Delete as deletes
-use Rattle.sync_model.specs.Stream.{Start, WalkDecision}
+use Rattle.sync_model.specs.Message.SyncMessage.{RefreshPresent}
+use Rattle.sync_model.specs.Stream.{Start, WalkDecision, decide, decide_late, gathered}
 use Rattle.sync_model.specs.Stream.WalkDecision.{Sends, Names}
 use Rattle.sync_model.specs.Stream.Start.{InitialContent, DeletePhase, PresentPhase}
 use Rattle.directory_writes.specs.Directory.{DirectoryState, entries_of}
 use Rattle.directory_writes.specs.Touches.{last_touch}
+use Rattle.sync_provider.specs.Gathering.{Gathered}
+use Rattle.sync_provider.specs.Search.{session_of}
 
 abbrev pub all_identities : DirectoryState → List ℕ
 all_identities d = identities (entries_of d)
@@ -40,11 +43,55 @@ item_of d search uuid (Some entry) =
 abbrev pub item_at : DirectoryState → Search → ℕ → Item
 item_at d search uuid = item_of d search uuid (entry_at (entries_of d) uuid)
 
--- the decisions of the phase
-abbrev pub planned : Start → List Item → List decision.Decision
-planned InitialContent items = presents.planned None items
-planned (DeletePhase number) items = deletes.planned number items
-planned (PresentPhase number) items = presents.planned (Some number) items
+-- whether it has an entry that is selected
+abbrev pub is_selected_found : Search → Option Entry → Bool
+is_selected_found search None = false
+is_selected_found search (Some entry) = is_selected search entry
+
+abbrev pub is_selected_at : DirectoryState → Search → ℕ → Bool
+is_selected_at d search uuid = is_selected_found search (entry_at (entries_of d) uuid)
+
+-- what is known of an identity that was touched since, by whichever write: the first one stands for
+-- it
+abbrev pub touched_item_at : DirectoryState → Search → ℕ → Item
+touched_item_at d search uuid =
+    record { uuid = uuid; touched = 1; selected = is_selected_at d search uuid }
+
+-- the decisions of a present phase, and of a delete phase
+abbrev pub present_planned :
+    DirectoryState → Search → Option ℕ → List ℕ → List decision.Decision
+present_planned d search after uuids = presents.planned after (map (item_at d search) uuids)
+
+abbrev pub delete_planned : DirectoryState → Search → List ℕ → List decision.Decision
+delete_planned d search uuids = deletes.planned 0 (map (touched_item_at d search) uuids)
+
+-- what a search sends of these identities, decided now
+abbrev pub decided_now :
+    (persists : Bool) → DirectoryState → Search → Start → List ℕ → List WalkDecision
+decided_now persists d search start uuids =
+    flat_map
+    (decide (session_of persists d.sid d.history search d.writes) start (length d.writes))
+    uuids
+
+-- what it sends of those that changed in the content since its acceptance, decided now
+abbrev pub decided_late :
+    (persists : Bool) → DirectoryState → Search → List ℕ → List WalkDecision
+decided_late persists d search uuids =
+    flat_map
+    (decide_late (session_of persists d.sid d.history search d.writes) (length d.writes))
+    uuids
+
+-- these come as a delete phase after what was gathered
+pub record GathersLate
+    (persists : Bool) (d : DirectoryState) (search : Search) (uuids : List ℕ)
+    (old new : Gathered) : Type 0 where
+  pub deletes : new.deletes ≡ true
+  pub messages :
+      new.messages
+      ≡ old.messages
+      ++ (cond old.deletes [] (RefreshPresent false None ∷ [])
+      ++ gathered true (decided_late persists d search uuids))
+  pub names : new.names ≡ []
 
 -- what a decision says: the entry of its identity, where there is one, or its name
 abbrev pub sends : Option Entry → List WalkDecision

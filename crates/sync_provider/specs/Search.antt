@@ -1,16 +1,15 @@
 -- A search that is open (RFC 4533, sections 3.3 and 3.4).
-use Rattle.std.specs.Prelude.{ℕ, ◌<◌, ◌≤◌, ◌+◌, pos, Bool, true, false, cond, List, [], ◌∷◌, ◌++◌, length, map, take, Option, Some, None}
+use Rattle.std.specs.Prelude.{ℕ, pos, Bool, true, false, cond, List, [], ◌∷◌, length, map, take, None}
 use Rattle.ldap_constants.specs.declared.result_codes.TheConstants.{BUSY}
 use Rattle.csn_cookie.specs.Csn.{start}
 use Rattle.csn_cookie.specs.Cookie.{cookie_text}
-use Rattle.csn_cookie.specs.declared.cookie.Cookie as cookies
 use Rattle.entry_tree.specs.declared.op.Write.{Write}
 use Rattle.entry_tree.specs.History.{state_of}
 use Rattle.entry_tree.specs.Selection.{Search}
 use Rattle.sync_model.specs.Message.{CookieText, SyncMessage}
 use Rattle.sync_model.specs.Message.SyncMessage.{AddOrModify, Delete, Present, IdSet, NewCookie, RefreshDelete, RefreshPresent, Done, Ignored}
-use Rattle.sync_model.specs.Stream.{SyncOperation, Start, RefreshPiece, walk, refresh, end_of}
-use Rattle.sync_slices.specs.Slices.{SlicedRefresh, SliceProgress, first_progress, handed_on, pending_now}
+use Rattle.sync_model.specs.Stream.{SyncOperation, Start}
+use Rattle.sync_slices.specs.Slices.{SlicedRefresh, SliceProgress, most_decided, first_progress, handed_on, pending_now}
 use Rattle.directory_writes.specs.Directory.{DirectoryState, cookie_at, last_csn}
 use Rattle.sync_provider.specs.declared.refresh_item.RefreshItem.{RefreshItem}
 use Rattle.sync_provider.specs.declared.refresh_item.RefreshItem.TheVariants as part
@@ -33,27 +32,20 @@ session_of persists sid history spec writes =
       cookies = cookie_after sid history writes;
     }
 
--- its walk in one piece, at its acceptance
-abbrev pub whole_walk : SyncOperation → Start → ℕ → List RefreshPiece
-whole_walk operation start count = record { uuids = walk operation start count; mark = count } ∷ []
-
--- its refresh where it is accepted after n writes, and all of its walk is decided then
-abbrev pub refresh_from : SyncOperation → Start → ℕ → List SyncMessage
-refresh_from operation start count =
-    refresh operation start count (whole_walk operation start count)
-
--- how many identities of its walk are decided at one moment: all of them
-abbrev pub decided_at_once : SyncOperation → Start → ℕ → ℕ
-decided_at_once operation start count = length (walk operation start count) + 1
-
 -- what is decided when of its refresh
 abbrev pub sliced_from : SyncOperation → Start → ℕ → SlicedRefresh
 sliced_from operation start count = record {
   operation = operation;
   start = start;
   accepted = count;
-  size = decided_at_once operation start count;
+  size = most_decided;
 }
+
+-- the same of a refresh on a directory
+abbrev pub sliced_in :
+    DirectoryState → Search → Start → (persists : Bool) → (accepted : ℕ) → SlicedRefresh
+sliced_in d spec start persists accepted =
+    sliced_from (session_of persists d.sid d.history spec d.writes) start accepted
 
 -- ---- a search
 
@@ -77,18 +69,6 @@ sliced_over sid history writes s =
 
 abbrev pub sliced : DirectoryState → SearchState → SlicedRefresh
 sliced d s = sliced_over d.sid d.history d.writes s
-
--- all pieces were decided at once at the acceptance, after n writes, and this is not handed out of
--- the refresh and of later writes
-abbrev pub settled_progress : ℕ → (rest due : List SyncMessage) → SliceProgress
-settled_progress count rest due = record {
-  marks = count ∷ [];
-  left = [];
-  names = [];
-  changed = [];
-  rest = rest;
-  due = due;
-}
 
 -- a search that is accepted: its first piece is decided
 abbrev pub opening : DirectoryState → ℕ → Search → Start → (persists : Bool) → SearchState
@@ -132,35 +112,12 @@ advanced d s = record s { progress = handed_on (sliced d s) (length d.writes) s.
 
 -- ---- the parts that it is kept by
 
--- entries are sent whole, and names go in sets
-abbrev pub message_of : Bool → RefreshItem → SyncMessage
-message_of deletes (part.Whole entry) = AddOrModify true entry None
-message_of deletes (part.Names uuids) = IdSet deletes uuids None
+-- the message of a part
+abbrev pub message_of : RefreshItem → SyncMessage
+message_of (part.Whole entry) = AddOrModify true entry None
+message_of (part.Names deletes uuids) = IdSet deletes uuids.items None
+message_of part.PresentPhaseEnds = RefreshPresent false None
+message_of (part.Ends end) = end
 
--- the messages of these parts, and the end
-abbrev pub messages_of :
-    (persists deletes : Bool) → List RefreshItem → CookieText → List SyncMessage
-messages_of persists deletes parts cookie =
-    map (message_of deletes) parts ++ end_of persists deletes cookie ∷ []
-
--- the first of them
-abbrev pub first_of : (persists deletes : Bool) → List RefreshItem → CookieText → SyncMessage
-first_of persists deletes [] cookie = end_of persists deletes cookie
-first_of persists deletes (part ∷ parts) cookie = message_of deletes part
-
--- what is left of a refresh: parts, and the cookie of its end
-pub record Remaining : Type 0 where
-  pub parts : List RefreshItem
-  pub cookie : CookieText
-
--- nothing is left after the end
-abbrev pub remaining_messages : (persists deletes : Bool) → Option Remaining → List SyncMessage
-remaining_messages persists deletes None = []
-remaining_messages persists deletes (Some left) =
-    messages_of persists deletes left.parts left.cookie
-
--- how many of the parts were handed out, and the cookie of the end
-pub record IsOpen (parts : List RefreshItem) (handed : ℕ) (cookie : cookies.Cookie) : Type 0 where
-  pub within : handed ≤ length parts
-  pub rid : cookie.rid < 1000
-  pub sid : cookie.sid < 4096
+abbrev pub messages_of : List RefreshItem → List SyncMessage
+messages_of parts = map message_of parts

@@ -1,5 +1,5 @@
 -- How a write is reported to the open searches before it is accepted (RFC 4533, section 3.4).
-use Rattle.std.specs.Prelude.{ℕ, ◌≡◌, ◌<◌, ◌≤◌, ◌-◌, ◌^◌, Bool, true, false, min, cond, List, [], ◌∷◌, ◌++◌, length, map, flat_map, sum_by, Option, Some, None, IfSome}
+use Rattle.std.specs.Prelude.{ℕ, ◌<◌, ◌-◌, ◌^◌, Bool, true, false, min, cond, List, [], ◌∷◌, ◌++◌, length, map, flat_map, Option, Some, None, IfSome}
 use Rattle.csn_cookie.specs.declared.cookie.Cookie as cookies
 use Rattle.dn_names.specs.Writing.{name_text}
 use Rattle.entry_tree.specs.declared.entry.Entry.{Entry}
@@ -84,11 +84,6 @@ pub record HasCookieText (cookie : Option cookies.Cookie) : Type 0 where
   pub sid : IfSome cookie (λ c. c.sid < 4096)
 
 -- ---- a search as it is kept
-
--- these are as many messages, and there is room for all of them
-pub record HasRoom (spare count : ℕ) (groups : List (List SyncMessage)) : Type 0 where
-  pub counted : count ≡ sum_by length groups
-  pub room : count ≤ spare
 
 -- a search, and beside it the messages of writes that are not accepted yet, where they are made: a
 -- group for each write, in their order. They are not pending

@@ -31,6 +31,17 @@ impl Handed {
         }
     }
 
+    /// Whether it is a message after which its search goes on.
+    pub(crate) fn is_message(&self) -> bool
+        ensures { result ≡ handing.is_going_on (handing.turn_of self.now) }
+    {
+        match self {
+            Handed::Message(_) => true,
+            Handed::Ended(_, _) | Handed::Nothing | Handed::NoSuchSearch | Handed::NoMemory =>
+                false,
+        }
+    }
+
     /// Its message, where the search goes on after it, or why it goes on no further.
     pub fn into_message(self) -> Result<Message, HandOutStop>
         ensures message { IfOk result (λ message. self ≡ Handed.Message message) }

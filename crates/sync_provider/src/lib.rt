@@ -8,12 +8,16 @@
 //! Each search begins with a refresh, whose end carries the cookie of the content. Without a cookie
 //! every entry that its specification selects is sent whole. With a cookie of the directory only
 //! what was touched since then is sent. The rest is a delete phase, where the session log reports
-//! what was touched, and else a present phase.
+//! what was touched, and else a present phase. It goes through the identities piece by piece: each
+//! piece is decided when its first message is asked for, and writes may come between. What changed
+//! in the content meanwhile is sent once more after the last piece, and the cookie is that of the
+//! content then.
 //!
 //! In the mode refreshOnly the search is over then. In the mode refreshAndPersist it goes on: each
 //! accepted write puts, in the same call, one message for each identity that it changes in the
 //! content into the search's queue, all of them or none. A search whose queue would hold too many
-//! messages, or too heavy ones, ends with the code busy.
+//! messages, or too heavy ones, ends with the code busy, and so does one in whose content too many
+//! identities change while its refresh goes on.
 //!
 //! A `SyncDirectory` is all this. A `Provider` keeps a journal beside it: the writes that were
 //! accepted, the searches that were opened, and their ends. It is a `Port`, by which a directory is
@@ -21,6 +25,7 @@
 #![tactic(auto)]
 
 mod by_number;
+mod changed_set;
 mod committing;
 mod comparing;
 mod content_change;
@@ -33,12 +38,14 @@ mod laws;
 mod notifying;
 mod open_search;
 mod opened_search;
+mod parts;
 mod pending_refresh;
 mod persist_message;
 mod port;
 mod ports;
 mod provider;
 mod ready_commit;
+mod refresh_end;
 mod refresh_item;
 mod refreshing;
 mod returning;
@@ -46,8 +53,10 @@ mod search_table;
 mod searches;
 mod searching;
 mod selecting;
+mod staged_group;
 mod staging;
 mod sync_directory;
+mod walk;
 mod writing;
 
 pub use committing::StagedCommit;

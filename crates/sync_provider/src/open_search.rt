@@ -1,29 +1,33 @@
 //! A search that is open.
 
-ghost use Rattle.std.specs.Prelude.{◌≡◌, ◌<◌, [], false, true, drop, Some, IfOk, IfSome, OnOk};
+ghost use Rattle.std.specs.Prelude.{◌≡◌, ◌≤◌, ◌<◌, ◌+◌, ◌++◌, [], cond, false, true, length, not, IfOk, IfSome, OnOk};
 ghost use Rattle.csn_cookie.specs.Cookie.{cookie_text};
 ghost use Rattle.directory_writes.specs.Directory.{DirectoryState};
 ghost use Rattle.directory_writes.specs.Starting.{start_of};
 ghost use Rattle.entry_tree.specs.Selection.{search_of};
-ghost use Rattle.sync_model.specs.Stream.{is_delete_phase};
-ghost use Rattle.sync_provider.specs.HandingOut.{turn_of, turn_of_pending, has_message, is_closing};
+ghost use Rattle.sync_model.specs.Law.{is_nil};
+ghost use Rattle.sync_provider.specs.HandingOut.{turn_of, turn_of_pending, has_message};
 ghost use Rattle.sync_provider.specs.HandingOut.{after_own_turn};
 ghost use Rattle.sync_provider.specs.Opened.{opening_of_search};
-ghost use Rattle.sync_provider.specs.Queueing.{is_noting};
-ghost use Rattle.sync_provider.specs.Search.{advanced, pending, messages_of, settled_progress};
+ghost use Rattle.sync_provider.specs.Queueing.{is_crowded, is_full, is_noting, limits_of};
+ghost use Rattle.sync_provider.specs.Search.{pending, sliced};
+ghost use Rattle.sync_provider.specs.StagedGroups.{grown_by, last_changed};
 ghost use Rattle.sync_provider.specs.Staging.{first_pushed, pushed_staged, staged_for, with_group, without_groups};
+ghost use Rattle.sync_slices.specs.Slices.{given_up, grows_too_much, made_ready};
 
+use crate::changed_set::ChangedSet;
 use crate::handed::Handed;
 use crate::notifying::messages_for;
 use crate::opened_search::OpenedSearch;
-use crate::pending_refresh::{PendingRefresh, shared};
+use crate::parts::shared;
+use crate::pending_refresh::PendingRefresh;
 use crate::persist_message::PersistMessage;
-use crate::refresh_item::RefreshItem;
+use crate::staged_group::StagedGroup;
 use csn_cookie::Cookie;
-use directory_writes::Start;
+use directory_writes::{Directory, Start};
 use entry_tree::{EntryChange, Spec};
 use ldap_ber::{NoMemory, discard};
-use ldap_constants::{BUSY, SUCCESS};
+use ldap_constants::BUSY;
 use persist_queues::SearchQueue;
 use std::alloc::{AllocError, Global};
 use std::collections::VecDeque;
@@ -31,8 +35,12 @@ use std::marker::Model;
 use std::sync::Arc;
 use sync_wire::done_message;
 
-/// A search that is open: the messages of its refresh, as they were decided at its acceptance, and
-/// those of later writes, as far as they were not handed out.
+/// The most identities that changed while a refresh goes on: each weighs 16, and all of them 16 MiB
+/// at most.
+const MOST_CHANGED: u64 = 1_048_576;
+
+/// A search that is open: what is left of its refresh, and the messages of later writes that were
+/// not handed out.
 #[derive(Drop)]
 pub struct OpenSearch {
     alloc: Global,
@@ -45,15 +53,14 @@ pub struct OpenSearch {
     accepted: u64,
     /// Whether it goes on after its refresh.
     persists: bool,
-    /// None after the end of the refresh.
-    rest: Option<PendingRefresh>,
+    refresh: PendingRefresh,
     queue: SearchQueue<PersistMessage>,
-    /// The messages of writes that are not accepted yet, where they are made, a group for each
-    /// write. The queue has room for all of them.
-    staged: VecDeque<Vec<PersistMessage>>,
+    /// What writes that are not accepted yet send it, a group for each write. Once all pieces of
+    /// its refresh are decided, the queue has room for all of their messages.
+    staged: VecDeque<StagedGroup>,
     /// How many messages are staged.
     staged_count: usize,
-    /// Whether a write did not fit. Then nothing is kept, and only the end is sent.
+    /// Whether a write was too much for it. Then nothing is kept, and only the end is sent.
     over: bool,
 }
 
@@ -63,9 +70,8 @@ impl Model for OpenSearch {
     ghost use Rattle.directory_writes.specs.Starting.{start_of};
     ghost use Rattle.entry_tree.specs.FilterCode.{tree_code};
     ghost use Rattle.entry_tree.specs.Selection.{search_of};
-    ghost use Rattle.sync_model.specs.Stream.{is_delete_phase};
-    ghost use Rattle.sync_provider.specs.Search.{remaining_messages, settled_progress};
-    ghost use Rattle.sync_provider.specs.Staging.{HeldSearch, HasRoom};
+    ghost use Rattle.sync_provider.specs.Staging.{HeldSearch};
+    ghost use Rattle.sync_provider.specs.StagedGroups.{AreStaged};
 
     ghost Value = { HeldSearch };
 
@@ -78,16 +84,14 @@ impl Model for OpenSearch {
         start = start_of s.start;
         accepted = s.accepted;
         persists = s.persists;
-        progress = settled_progress s.accepted
-            (remaining_messages s.persists (is_delete_phase (start_of s.start)) s.rest)
-            s.queue.items;
+        progress = record s.refresh { due = s.queue.items };
         over = s.over;
       };
-      staged = map (λ messages. messages.items) s.staged.items;
+      staged = map (λ group. group.messages.items) s.staged.items;
     } };
 
-    ghost invariant = { λ s. HasRoom s.queue.spare s.staged_count
-        (map (λ messages. messages.items) s.staged.items) };
+    ghost invariant = { λ s.
+        AreStaged s.over s.refresh s.queue.spare s.staged_count s.staged.items };
 }
 
 /// What a search asks for: the message ID that numbers its messages, its specification, where it
@@ -101,34 +105,26 @@ pub(crate) struct SearchOpening {
 }
 
 impl OpenSearch {
-    /// A search that is accepted after n writes, with these parts before the end of its
-    /// refresh, which has this cookie.
-    #[tactic(auto, using(crate::proofs::Filling::none_staged, crate::proofs::Filling::room_none))]
+    /// A search that is accepted after n writes, with this refresh.
+    #[tactic(auto, using(crate::proofs::Filling::none_staged, crate::proofs::Filling::room_open))]
     pub(crate) fn new(
         alloc: Global,
         asked: SearchOpening,
         accepted: u64,
-        parts: Vec<RefreshItem>,
-        cookie: Cookie,
+        refresh: PendingRefresh,
     ) -> Result<OpenSearch, NoMemory>
-        requires rid { cookie.rid < 1000 }
-        requires sid { cookie.sid < 4096 }
         ensures search { IfOk result (λ opened. opened.search ≡ record {
           id = asked.id;
           spec = search_of asked.spec;
           start = start_of asked.start;
           accepted = accepted;
           persists = asked.persists;
-          progress = settled_progress accepted
-              (messages_of asked.persists (is_delete_phase (start_of asked.start)) parts.items
-              (cookie_text cookie))
-              [];
+          progress = record refresh { due = [] };
           over = false;
         }) }
         ensures staged { IfOk result (λ opened. opened.staged ≡ []) }
     {
         let spec = shared(alloc, asked.spec)?;
-        let rest = PendingRefresh::new(alloc, parts, cookie)?;
         Ok(OpenSearch {
             alloc,
             id: asked.id,
@@ -136,7 +132,7 @@ impl OpenSearch {
             start: asked.start,
             accepted,
             persists: asked.persists,
-            rest: Some(rest),
+            refresh,
             queue: SearchQueue::new(alloc, 0),
             staged: VecDeque::new(alloc),
             staged_count: 0,
@@ -145,11 +141,11 @@ impl OpenSearch {
     }
 
     /// A search that goes on as this one does.
-    #[tactic(auto, using(crate::proofs::Filling::room_none))]
+    #[tactic(auto, using(crate::proofs::Filling::none_staged, crate::proofs::Filling::room_cleared))]
     pub(crate) fn copy(&self) -> Result<OpenSearch, NoMemory>
         ensures search { IfOk result (λ copy. copy.search ≡ self.now.search) }
     {
-        let rest = copy_of_rest(&self.rest)?;
+        let refresh = self.refresh.copy()?;
         let queue = copy_of_queue(self.alloc, &self.queue)?;
         let spec = self.spec.clone()?;
         Ok(OpenSearch {
@@ -159,7 +155,7 @@ impl OpenSearch {
             start: self.start,
             accepted: self.accepted,
             persists: self.persists,
-            rest,
+            refresh,
             queue,
             staged: VecDeque::new(self.alloc),
             staged_count: 0,
@@ -171,11 +167,12 @@ impl OpenSearch {
     pub(crate) fn is_noting(&self) -> bool
         ensures { result ≡ is_noting self.now.search }
     {
-        self.persists && !self.over
+        let is_left = !self.refresh.is_decided();
+        !self.over && (self.persists || is_left)
     }
 
     /// Whether a message is pending.
-    #[tactic(auto, using(crate::proofs::Turns::over_has_message, crate::proofs::Turns::rest_has_message, crate::proofs::Turns::due_has_message, crate::proofs::Journals::none_has_message))]
+    #[tactic(auto, using(crate::proofs::Turns::over_has_message, crate::proofs::Turns::left_has_message, crate::proofs::Turns::rest_has_message, crate::proofs::Turns::due_has_message, crate::proofs::Journals::none_has_message))]
     pub(crate) fn has_message(&self) -> bool
         ensures { (d : DirectoryState) → result
             ≡ has_message (turn_of_pending self.now.search.id (pending d self.now.search)) }
@@ -183,7 +180,10 @@ impl OpenSearch {
         if self.over {
             return true;
         }
-        if let Some(_) = &self.rest {
+        if !self.refresh.is_decided() {
+            return true;
+        }
+        if !self.refresh.is_empty() {
             return true;
         }
         let Some(_) = self.queue.get(0) else {
@@ -214,15 +214,17 @@ impl OpenSearch {
         }
     }
 
-    /// The message that is pending first, which counts as handed out where it is not the last.
-    #[tactic(auto, using(crate::proofs::Turns::over_turn, crate::proofs::Turns::over_has_message, crate::proofs::Turns::rest_has_message, crate::proofs::Turns::part_turn, crate::proofs::Turns::part_state, crate::proofs::Turns::end_turn, crate::proofs::Turns::end_state, crate::proofs::Turns::last_turn))]
-    pub(crate) fn hand_out(&mut self) -> Handed
-        ensures turn { (d : DirectoryState) → IfSome (turn_of result)
-            (λ turn. turn ≡ turn_of_pending self.old.search.id (pending d self.old.search)) }
-        ensures memory { (d : DirectoryState) → result ≡ Handed.NoMemory
-            → has_message (turn_of_pending self.old.search.id (pending d self.old.search)) ≡ true }
-        ensures state { (d : DirectoryState)
-            → self.new.search ≡ after_own_turn d self.old.search (turn_of result) }
+    /// The message that is pending first on this directory, which counts as handed out where it is
+    /// not the last. The pieces of its refresh that it needs are decided.
+    #[tactic(auto, using(crate::proofs::Turns::over_turn, crate::proofs::Turns::over_has_message, crate::proofs::Filling::room_handed))]
+    pub(crate) fn hand_out(&mut self, directory: &Directory) -> Handed
+        ensures turn { IfSome (turn_of result) (λ turn. turn
+            ≡ turn_of_pending self.old.search.id (pending directory.now.state self.old.search)) }
+        ensures memory { result ≡ Handed.NoMemory → has_message
+            (turn_of_pending self.old.search.id (pending directory.now.state self.old.search))
+            ≡ true }
+        ensures state { self.new.search
+            ≡ after_own_turn directory.now.state self.old.search (turn_of result) }
     {
         if self.over {
             return match done_message(self.alloc, self.id, BUSY) {
@@ -230,27 +232,58 @@ impl OpenSearch {
                 Err(_) => Handed::NoMemory,
             };
         }
-        let Some(rest) = &mut self.rest else {
+        if self.refresh.is_waiting() {
+            return self.hand_out_next(directory);
+        }
+        if self.refresh.is_empty() {
             return self.hand_out_later();
-        };
-        let deletes = self.start.deletes();
-        let Ok(message) = rest.message(self.id, self.persists, deletes) else {
+        }
+        self.refresh.hand_out(self.alloc, self.id)
+    }
+
+    /// The first message of the next pieces, which are decided. Where it is not handed out, they
+    /// are not decided either.
+    #[tactic(auto, using(crate::proofs::Turns::left_has_message, crate::proofs::Filling::room_open))]
+    fn hand_out_next(&mut self, directory: &Directory) -> Handed
+        requires over { self.old.search.over ≡ false }
+        requires rest { self.old.search.progress.rest ≡ [] }
+        requires left { is_nil self.old.search.progress.left ≡ false }
+        ensures turn { IfSome (turn_of result) (λ turn. turn
+            ≡ turn_of_pending self.old.search.id (pending directory.now.state self.old.search)) }
+        ensures memory { result ≡ Handed.NoMemory → has_message
+            (turn_of_pending self.old.search.id (pending directory.now.state self.old.search))
+            ≡ true }
+        ensures state { self.new.search
+            ≡ after_own_turn directory.now.state self.old.search (turn_of result) }
+    {
+        let Ok(mut ready) = self.ready(directory) else {
             return Handed::NoMemory;
         };
-        if !rest.is_end() {
-            rest.advance();
-            return Handed::Message(message);
+        let handed = ready.hand_out(self.alloc, self.id);
+        if !handed.is_message() {
+            discard(ready);
+            return handed;
         }
-        if self.persists {
-            discard(self.rest.take());
-            return Handed::Message(message);
-        }
-        Handed::Ended(SUCCESS, message)
+        self.staged.clear();
+        self.staged_count = 0;
+        self.refresh = ready;
+        handed
+    }
+
+    /// Its refresh with the next pieces decided.
+    fn ready(&self, directory: &Directory) -> Result<PendingRefresh, NoMemory>
+        ensures { IfOk result (λ ready. record ready { due = self.now.search.progress.due }
+            ≡ made_ready (sliced directory.now.state self.now.search)
+            (length directory.now.state.writes) self.now.search.progress) }
+    {
+        self.refresh
+            .made_ready(directory, &self.spec, self.start, self.persists)
     }
 
     /// The first message of later writes, once the refresh is handed out.
-    #[tactic(auto, using(crate::proofs::Turns::later_turn, crate::proofs::Turns::due_has_message, crate::proofs::Turns::later_state, crate::proofs::Turns::none_turn))]
+    #[tactic(auto, using(crate::proofs::Turns::later_turn, crate::proofs::Turns::due_has_message, crate::proofs::Turns::later_state, crate::proofs::Turns::none_turn, crate::proofs::Filling::room_more))]
     fn hand_out_later(&mut self) -> Handed
+        requires left { self.old.search.progress.left ≡ [] }
         requires rest { self.old.search.progress.rest ≡ [] }
         requires over { self.old.search.over ≡ false }
         ensures turn { (d : DirectoryState) → IfSome (turn_of result)
@@ -270,114 +303,8 @@ impl OpenSearch {
         Handed::Message(message)
     }
 
-    /// The message with n before it of those that are pending. None is handed out.
-    #[tactic(auto, using(crate::proofs::AtPlace::no_refresh, crate::proofs::AtPlace::past_left, crate::proofs::AtPlace::parts_after, crate::proofs::AtPlace::last_after, crate::proofs::AtPlace::stay_after, crate::proofs::AtPlace::refresh_has_message))]
-    pub(crate) fn pending_at(&self, place: usize) -> Handed
-        ensures turn { (d : DirectoryState) → IfSome (turn_of result) (λ turn.
-            turn ≡ turn_of_pending self.now.search.id (drop place (pending d self.now.search))) }
-        ensures memory { (d : DirectoryState) → result ≡ Handed.NoMemory
-            → has_message
-            (turn_of_pending self.now.search.id (drop place (pending d self.now.search)))
-            ≡ true }
-    {
-        if self.over {
-            return self.busy_end_at(place);
-        }
-        let Some(rest) = &self.rest else {
-            return self.later_at(place, place);
-        };
-        let left = rest.left();
-        if place > left {
-            return self.later_at(place, place - left - 1);
-        }
-        let deletes = self.start.deletes();
-        let Ok(message) = rest.message_at(place, self.id, self.persists, deletes) else {
-            return Handed::NoMemory;
-        };
-        if place < left || self.persists {
-            return Handed::Message(message);
-        }
-        Handed::Ended(SUCCESS, message)
-    }
-
-    /// The end with the code busy, where nothing is before it.
-    #[tactic(auto, using(crate::proofs::AtPlace::over_after, crate::proofs::AtPlace::over_nothing, crate::proofs::AtPlace::over_is_message))]
-    fn busy_end_at(&self, place: usize) -> Handed
-        requires { self.now.search.over ≡ true }
-        ensures turn { (d : DirectoryState) → IfSome (turn_of result) (λ turn.
-            turn ≡ turn_of_pending self.now.search.id (drop place (pending d self.now.search))) }
-        ensures memory { (d : DirectoryState) → result ≡ Handed.NoMemory
-            → has_message
-            (turn_of_pending self.now.search.id (drop place (pending d self.now.search)))
-            ≡ true }
-    {
-        if place > 0 {
-            return Handed::Nothing;
-        }
-        match done_message(self.alloc, self.id, BUSY) {
-            Ok(message) => Handed::Ended(BUSY, message),
-            Err(_) => Handed::NoMemory,
-        }
-    }
-
-    /// The message of later writes with n of them before it, which stands at this place of all that
-    /// are pending.
-    #[tactic(auto, using(crate::proofs::AtPlace::due_after, crate::proofs::AtPlace::due_nothing, crate::proofs::AtPlace::due_is_message))]
-    fn later_at(&self, place: usize, after: usize) -> Handed
-        requires { (d : DirectoryState)
-            → drop place (pending d self.now.search) ≡ drop after self.now.search.progress.due }
-        ensures turn { (d : DirectoryState) → IfSome (turn_of result) (λ turn.
-            turn ≡ turn_of_pending self.now.search.id (drop place (pending d self.now.search))) }
-        ensures memory { (d : DirectoryState) → result ≡ Handed.NoMemory
-            → has_message
-            (turn_of_pending self.now.search.id (drop place (pending d self.now.search)))
-            ≡ true }
-    {
-        let Some(later) = self.queue.get(after) else {
-            return Handed::Nothing;
-        };
-        match later.message(self.id) {
-            Ok(message) => Handed::Message(message),
-            Err(_) => Handed::NoMemory,
-        }
-    }
-
-    /// Whether the message that is pending first is the last one.
-    #[tactic(auto, using(crate::proofs::AtPlace::over_closes, crate::proofs::AtPlace::refresh_closes, crate::proofs::AtPlace::due_closes, crate::proofs::AtPlace::none_closes))]
-    pub(crate) fn is_ending(&self) -> bool
-        ensures { (d : DirectoryState) → result ≡ is_closing
-            (Some (turn_of_pending self.now.search.id (pending d self.now.search))) }
-    {
-        if self.over {
-            return true;
-        }
-        let Some(rest) = &self.rest else {
-            return match self.queue.get(0) {
-                Some(later) => later.is_end(),
-                None => false,
-            };
-        };
-        rest.is_end() && !self.persists
-    }
-
-    /// The message that is pending first counts as handed out. It takes no memory.
-    #[tactic(auto, using(crate::proofs::Turns::part_state, crate::proofs::Turns::end_state, crate::proofs::AtPlace::popped))]
-    pub(crate) fn advance(&mut self)
-        ensures { (d : DirectoryState) → self.new.search ≡ advanced d self.old.search }
-    {
-        let Some(rest) = &mut self.rest else {
-            let _ = self.queue.pop();
-            return;
-        };
-        if rest.is_end() {
-            discard(self.rest.take());
-            return;
-        }
-        rest.advance();
-    }
-
     /// Drops what is staged.
-    #[tactic(auto, using(crate::proofs::Filling::none_staged, crate::proofs::Filling::room_none))]
+    #[tactic(auto, using(crate::proofs::Filling::none_staged, crate::proofs::Filling::room_cleared))]
     pub(crate) fn unstage(&mut self)
         ensures { self.new ≡ without_groups self.old }
     {
@@ -385,9 +312,9 @@ impl OpenSearch {
         self.staged_count = 0;
     }
 
-    /// Makes the messages that a write sends, after those that are staged, and the room for all of
-    /// them in the queue. They are not pending before the write is accepted.
-    #[tactic(auto, using(crate::proofs::Filling::room_added, crate::proofs::Filling::room_more, crate::proofs::Filling::groups_added))]
+    /// Makes what a write sends it, after what is staged. It is not pending before the write is
+    /// accepted.
+    #[tactic(auto, using(crate::proofs::Filling::group_added, crate::proofs::Filling::room_more, crate::proofs::Filling::groups_added))]
     pub(crate) fn stage(&mut self, touched: &[EntryChange], cookie: Cookie) -> Result<(), NoMemory>
         requires rid { cookie.rid < 1000 }
         requires sid { cookie.sid < 4096 }
@@ -398,10 +325,28 @@ impl OpenSearch {
         let messages = self.messages_of(touched, cookie)?;
         let all = self.staged_count.checked_add(messages.len());
         let count = all.ok_or(AllocError)?;
-        self.queue.reserve(count)?;
-        self.staged.push_back(messages)?;
+        let changed = self.changed_with(messages.as_slice())?;
+        make_room(&self.refresh, &mut self.queue, count)?;
+        self.staged.push_back(StagedGroup { messages, changed })?;
         self.staged_count = count;
         Ok(())
+    }
+
+    /// What changed in the content since the acceptance once all that is staged and these messages
+    /// are sent, while pieces of the refresh are left.
+    #[tactic(auto, using(crate::proofs::Filling::grown_none))]
+    fn changed_with(&self, messages: &[PersistMessage]) -> Result<ChangedSet, NoMemory>
+        ensures { IfOk result (λ changed. changed
+            ≡ grown_by self.now.search.progress.left
+            (last_changed self.now.search.progress.changed self.now.staged) messages.now) }
+    {
+        if self.refresh.is_decided() {
+            return Ok(ChangedSet::new(self.alloc));
+        }
+        match self.staged.back() {
+            Some(group) => group.changed.with_each(messages),
+            None => self.refresh.changed().with_each(messages),
+        }
     }
 
     /// The messages that a write sends it.
@@ -422,8 +367,7 @@ impl OpenSearch {
         }
     }
 
-    /// Puts what was staged after what is due, group by group, of which there may be so much, or
-    /// else ends the search. It takes no memory.
+    /// Puts what was staged in place, group by group, or else ends the search. It takes no memory.
     pub(crate) fn push_staged(&mut self, limit: u64)
         ensures { self.new.search ≡ pushed_staged limit self.old.staged self.old.search }
     {
@@ -434,34 +378,101 @@ impl OpenSearch {
     }
 
     /// The same for the first group alone. Where a write was too much before, it is dropped.
-    #[tactic(auto, using(crate::proofs::Filling::first_none, crate::proofs::Filling::first_some, crate::proofs::Filling::group_dropped, crate::proofs::Filling::group_pushed, crate::proofs::Filling::pushed_over, crate::proofs::Filling::pushed_in, crate::proofs::Filling::group_counted, crate::proofs::Filling::group_fits, crate::proofs::Filling::room_left))]
+    #[tactic(auto, using(crate::proofs::Filling::first_none, crate::proofs::Filling::first_some, crate::proofs::Filling::group_dropped, crate::proofs::Filling::group_counted, crate::proofs::Filling::group_fits, crate::proofs::Filling::left_dropped))]
     fn push_next(&mut self, limit: u64)
         ensures { self.new ≡ first_pushed limit self.old.search self.old.staged }
     {
-        let Some(messages) = self.staged.pop_front() else {
+        let Some(group) = self.staged.pop_front() else {
             return;
         };
+        let StagedGroup { messages, changed } = group;
         self.staged_count -= messages.len();
         if self.over || messages.is_empty() {
             discard(messages);
+            discard(changed);
             return;
         }
-        self.queue.set_limit(limit);
-        if self.queue.push_all(messages).is_err() {
-            discard(self.rest.take());
-            self.queue.end();
-            self.over = true;
+        if self.refresh.is_decided() {
+            discard(changed);
+            self.over = queue_messages(&mut self.refresh, &mut self.queue, messages, limit);
+            return;
         }
+        discard(messages);
+        self.over = keep_changed(&mut self.refresh, &mut self.queue, changed, limit);
     }
 }
 
-fn copy_of_rest(rest: &Option<PendingRefresh>) -> Result<Option<PendingRefresh>, NoMemory>
-    ensures { IfOk result (λ copy. copy ≡ rest.now) }
+/// Makes room for n messages in the queue, once all pieces of the refresh are decided.
+fn make_room(
+    refresh: &PendingRefresh,
+    queue: &mut SearchQueue<PersistMessage>,
+    count: usize,
+) -> Result<(), NoMemory>
+    ensures items { queue.new.items ≡ queue.old.items }
+    ensures kept { queue.old.spare ≤ queue.new.spare }
+    ensures room { OnOk result (refresh.now.left ≡ [] → count ≤ queue.new.spare) }
 {
-    match rest {
-        None => Ok(None),
-        Some(rest) => Ok(Some(rest.copy()?)),
+    if !refresh.is_decided() {
+        return Ok(());
     }
+    queue.reserve(count)
+}
+
+/// Puts the messages of a write after those that are pending. True where that would be too much;
+/// then nothing is kept.
+#[tactic(auto, using(crate::proofs::Filling::room_is, crate::proofs::Filling::refused_full, crate::proofs::Filling::full_is))]
+fn queue_messages(
+    refresh: &mut PendingRefresh,
+    queue: &mut SearchQueue<PersistMessage>,
+    messages: Vec<PersistMessage>,
+    limit: u64,
+) -> bool
+    requires { length messages.items ≤ queue.old.spare }
+    ensures over { result ≡ is_full limit (queue.old.items ++ messages.items) }
+    ensures refresh { refresh.new ≡ cond result (given_up refresh.old) refresh.old }
+    ensures queue { queue.new.items ≡ cond result [] (queue.old.items ++ messages.items) }
+    ensures spare { queue.old.spare ≤ queue.new.spare + length messages.items }
+{
+    queue.set_limit(limit);
+    if queue.push_all(messages).is_ok() {
+        return false;
+    }
+    refresh.give_up();
+    queue.end();
+    true
+}
+
+/// Keeps what changed with a write. True where that is too much; then nothing is kept.
+fn keep_changed(
+    refresh: &mut PendingRefresh,
+    queue: &mut SearchQueue<PersistMessage>,
+    changed: ChangedSet,
+    limit: u64,
+) -> bool
+    ensures over { result
+        ≡ grows_too_much (limits_of limit) (length refresh.old.changed) (length changed) }
+    ensures refresh { refresh.new
+        ≡ cond result (given_up refresh.old) (record refresh.old { changed = changed }) }
+    ensures queue { queue.new.items ≡ cond result [] queue.old.items }
+    ensures spare { queue.old.spare ≤ queue.new.spare }
+{
+    let count = changed.len();
+    if count <= refresh.changed().len() || !is_crowded(limit, count as u64) {
+        refresh.set_changed(changed);
+        return false;
+    }
+    discard(changed);
+    refresh.give_up();
+    queue.end();
+    true
+}
+
+/// Whether n identities are more than the limit, or heavier than what a search may keep.
+#[tactic(auto, using(crate::proofs::Filling::crowded_is))]
+fn is_crowded(limit: u64, count: u64) -> bool
+    ensures { result ≡ is_crowded limit count }
+{
+    count > limit || count > MOST_CHANGED
 }
 
 /// The same messages in a queue of their own.

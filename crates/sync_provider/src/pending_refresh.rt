@@ -1,162 +1,291 @@
 //! What is left of a refresh.
 
-ghost use Rattle.std.specs.Prelude.{◌≡◌, ◌≢◌, ◌<◌, [], false, drop, IfOk, ◌≤◌, length};
-ghost use Rattle.csn_cookie.specs.Cookie.{cookie_text};
-ghost use Rattle.ldap_messages.specs.Whole.{message_value};
+ghost use Rattle.std.specs.Prelude.{◌≡◌, ◌&&◌, ◌∷◌, ◌++◌, ℕ, [], cond, drop, length, not, true, IfOk, IfSome};
+ghost use Rattle.directory_writes.specs.Starting.{start_of, CanBegin};
+ghost use Rattle.entry_tree.specs.Selection.{search_of};
 ghost use Rattle.sync_model.specs.Law.{is_nil};
-ghost use Rattle.sync_wire.specs.Sending.{sent};
-ghost use Rattle.sync_provider.specs.Search.{message_of, first_of};
+ghost use Rattle.sync_model.specs.Stream.{is_delete_phase};
+ghost use Rattle.sync_provider.specs.HandingOut.{turn_of, turn_of_pending, has_message, is_going_on};
+ghost use Rattle.sync_provider.specs.Search.{sliced_in};
+ghost use Rattle.sync_slices.specs.Slices as slices;
 
 use crate::NoMemory;
-use crate::refresh_item::RefreshItem;
-use csn_cookie::Cookie;
-use ldap_messages::Message;
-use std::alloc::{AllocError, Global};
+use crate::changed_set::ChangedSet;
+use crate::gathering::Gathering;
+use crate::handed::Handed;
+use crate::parts::Parts;
+use crate::refreshing::{gather_end, gather_piece};
+use crate::walk::Walk;
+use directory_writes::{Directory, Start};
+use entry_tree::Spec;
+use ldap_constants::SUCCESS;
+use std::alloc::Global;
 use std::marker::Model;
-use std::sync::Arc;
-use sync_wire::{end_message, entry_message, id_set_message};
 
-/// The messages of a refresh that were not handed out yet (RFC 4533, section 3.3): its parts, and
-/// its end.
+/// A refresh, as far as it is not handed out (RFC 4533, section 3.3): the identities that are not
+/// decided, and the messages of those that are.
 #[derive(Drop)]
 pub(crate) struct PendingRefresh {
-    /// Shared with the copies of the refresh.
-    parts: Arc<Vec<RefreshItem>>,
-    /// How many parts were handed out.
-    handed: usize,
-    /// The cookie of the end.
-    cookie: Cookie,
+    alloc: Global,
+    /// How many writes there were when each piece was decided.
+    marks: Vec<u64>,
+    walk: Walk,
+    /// The identities that are to be named, and wait for a set to be full.
+    names: Vec<u128>,
+    /// What changed in the content since the acceptance, while pieces are left.
+    changed: ChangedSet,
+    parts: Parts,
 }
 
 impl Model for PendingRefresh {
-    ghost use Rattle.std.specs.Prelude.{drop};
-    ghost use Rattle.csn_cookie.specs.Cookie.{cookie_text};
-    ghost use Rattle.sync_provider.specs.Search.{Remaining, IsOpen};
+    ghost use Rattle.std.specs.Prelude.{[]};
+    ghost use Rattle.sync_slices.specs.Slices.{SliceProgress};
 
-    ghost Value = { Remaining };
+    ghost Value = { SliceProgress };
 
-    ghost view = { λ r.
-        record { parts = drop r.handed r.parts.value.items; cookie = cookie_text r.cookie } };
-
-    ghost invariant = { λ r. IsOpen r.parts.value.items r.handed r.cookie };
+    ghost view = { λ r. record {
+      marks = r.marks.items;
+      left = r.walk;
+      names = r.names.items;
+      changed = r.changed;
+      rest = r.parts;
+      due = [];
+    } };
 }
 
 impl PendingRefresh {
-    /// All of a refresh, whose end has this cookie.
+    /// A refresh that begins so on this directory. Its first piece is decided.
     pub(crate) fn new(
         alloc: Global,
-        parts: Vec<RefreshItem>,
-        cookie: Cookie,
+        directory: &Directory,
+        spec: &Spec,
+        start: Start,
+        persists: bool,
     ) -> Result<PendingRefresh, NoMemory>
-        requires rid { cookie.rid < 1000 }
-        requires sid { cookie.sid < 4096 }
-        ensures { IfOk result (λ rest.
-            rest ≡ record { parts = parts.items; cookie = cookie_text cookie }) }
+        requires { CanBegin directory.now.state (start_of start) }
+        ensures { IfOk result (λ refresh. refresh ≡ slices.first_progress
+            (sliced_in directory.now.state (search_of spec.now) (start_of start) persists
+            (length directory.now.state.writes))) }
     {
-        let parts = shared(alloc, parts)?;
-        Ok(PendingRefresh {
-            parts,
-            handed: 0,
-            cookie,
-        })
+        let walk = Walk::new(alloc, directory, start)?;
+        let undecided = PendingRefresh::undecided(alloc, walk);
+        undecided.with_next(directory, spec, start, persists)
     }
 
-    /// The same refresh once more. Its parts are shared. It is `NoMemory` where no more copies can
-    /// be counted.
+    /// A refresh that goes through these, of which no piece is decided.
+    fn undecided(alloc: Global, walk: Walk) -> PendingRefresh
+        ensures { result ≡ record {
+          marks = [];
+          left = walk;
+          names = [];
+          changed = [];
+          rest = [];
+          due = [];
+        } }
+    {
+        PendingRefresh {
+            alloc,
+            marks: Vec::new(alloc),
+            walk,
+            names: Vec::new(alloc),
+            changed: ChangedSet::new(alloc),
+            parts: Parts::none(),
+        }
+    }
+
+    /// The same refresh once more. It shares all that grows with the content. It is `NoMemory`
+    /// where memory runs out.
     pub(crate) fn copy(&self) -> Result<PendingRefresh, NoMemory>
         ensures { IfOk result (λ copy. copy ≡ self.now) }
     {
+        let marks = self.marks.as_slice().to_vec(self.alloc)?;
+        let names = self.names.as_slice().to_vec(self.alloc)?;
+        let walk = self.walk.copy()?;
+        let changed = self.changed.copy()?;
+        let parts = self.parts.copy()?;
         Ok(PendingRefresh {
-            parts: self.parts.clone()?,
-            handed: self.handed,
-            cookie: self.cookie,
+            alloc: self.alloc,
+            marks,
+            walk,
+            names,
+            changed,
+            parts,
         })
     }
 
-    /// How many parts are left before the end.
-    #[tactic(auto, using(crate::proofs::AtPlace::parts_left))]
-    pub(crate) fn left(&self) -> usize
-        ensures { result ≡ length self.now.parts }
+    /// Whether all identities are decided.
+    pub(crate) fn is_decided(&self) -> bool
+        ensures { result ≡ is_nil self.now.left }
     {
-        self.parts.len() - self.handed
+        self.walk.is_over()
     }
 
-    /// Whether nothing is left but the end.
-    #[tactic(auto, using(crate::proofs::Turns::end_is))]
-    pub(crate) fn is_end(&self) -> bool
-        ensures { result ≡ is_nil self.now.parts }
+    /// Whether no message is decided, and identities are left.
+    pub(crate) fn is_waiting(&self) -> bool
+        ensures { result ≡ (is_nil self.now.rest && not (is_nil self.now.left)) }
     {
-        self.parts.len() <= self.handed
+        self.parts.is_empty() && !self.walk.is_over()
     }
 
-    /// Goes on to the next message.
-    #[tactic(auto, using(crate::proofs::Turns::not_end, crate::proofs::Turns::drop_one))]
-    pub(crate) fn advance(&mut self)
-        requires { is_nil self.old.parts ≡ false }
-        ensures { self.new ≡ record self.old { parts = drop 1 self.old.parts } }
+    /// Whether no message is decided that was not handed out.
+    pub(crate) fn is_empty(&self) -> bool
+        ensures { result ≡ is_nil self.now.rest }
     {
-        self.handed += 1;
+        self.parts.is_empty()
     }
 
-    /// The next message, in a search that goes on after its refresh or not, and in a delete phase
-    /// or a present phase.
-    pub(crate) fn message(
-        &self,
-        id: u32,
-        persists: bool,
-        deletes: bool,
-    ) -> Result<Message, NoMemory>
-        ensures { IfOk result (λ message.
-            message_value message ≡ sent id
-            (first_of persists deletes self.now.parts self.now.cookie)) }
+    /// The first message that is decided, which counts as handed out where it is not the last one
+    /// of its search.
+    pub(crate) fn hand_out(&mut self, alloc: Global, id: u32) -> Handed
+        ensures turn { IfSome (turn_of result)
+            (λ turn. turn ≡ turn_of_pending id self.old.rest) }
+        ensures memory { result ≡ Handed.NoMemory
+            → has_message (turn_of_pending id self.old.rest) ≡ true }
+        ensures state { self.new
+            ≡ cond (is_going_on (turn_of result))
+            (record self.old { rest = drop 1 self.old.rest }) self.old }
     {
-        self.message_at(0, id, persists, deletes)
-    }
-
-    /// The message after n parts that are left, in such a search and phase.
-    #[tactic(auto, using(crate::proofs::AtPlace::part_after, crate::proofs::AtPlace::end_after))]
-    pub(crate) fn message_at(
-        &self,
-        place: usize,
-        id: u32,
-        persists: bool,
-        deletes: bool,
-    ) -> Result<Message, NoMemory>
-        requires { place ≤ length self.now.parts }
-        ensures { IfOk result (λ message.
-            message_value message
-            ≡ sent id (first_of persists deletes (drop place self.now.parts) self.now.cookie)) }
-    {
-        let alloc = *self.parts.allocator();
-        match self.parts.get(self.handed + place) {
-            Some(part) => part_message(alloc, id, deletes, part),
-            None => end_message(alloc, id, persists, deletes, &self.cookie),
+        let Some(part) = self.parts.first() else {
+            return Handed::Nothing;
+        };
+        let closes = part.closes();
+        let Ok(message) = part.message(alloc, id) else {
+            return Handed::NoMemory;
+        };
+        if closes {
+            return Handed::Ended(SUCCESS, message);
         }
+        self.parts.advance();
+        Handed::Message(message)
+    }
+
+    /// Nothing is left, but how many writes there were at each piece. It takes no memory.
+    pub(crate) fn give_up(&mut self)
+        ensures { self.new ≡ slices.given_up self.old }
+    {
+        self.walk.end();
+        self.names = Vec::new(self.alloc);
+        self.changed = ChangedSet::new(self.alloc);
+        self.parts = Parts::none();
+    }
+
+    /// What changed in the content since the acceptance.
+    pub(crate) fn changed(&self) -> &ChangedSet
+        ensures { result.now ≡ self.now.changed }
+    {
+        &self.changed
+    }
+
+    /// This changed in the content since the acceptance. It takes no memory.
+    pub(crate) fn set_changed(&mut self, changed: ChangedSet)
+        ensures { self.new ≡ record self.old { changed = changed } }
+    {
+        self.changed = changed;
+    }
+
+    /// The refresh with further pieces decided on this directory, until there is a message or no
+    /// identity is left. It is `NoMemory` where memory runs out.
+    pub(crate) fn made_ready(
+        &self,
+        directory: &Directory,
+        spec: &Spec,
+        start: Start,
+        persists: bool,
+    ) -> Result<PendingRefresh, NoMemory>
+        ensures { IfOk result (λ ready. (accepted : ℕ) → ready ≡ slices.made_ready
+            (sliced_in directory.now.state (search_of spec.now) (start_of start) persists
+            accepted)
+            (length directory.now.state.writes) self.now) }
+    {
+        let mut ready = self.copy()?;
+        while ready.is_waiting() {
+            ready = ready.with_next(directory, spec, start, persists)?;
+        }
+        Ok(ready)
+    }
+
+    /// The refresh with one piece more decided on this directory, and after the last one its end.
+    fn with_next(
+        &self,
+        directory: &Directory,
+        spec: &Spec,
+        start: Start,
+        persists: bool,
+    ) -> Result<PendingRefresh, NoMemory>
+        requires { self.now.rest ≡ [] }
+        ensures { IfOk result (λ next. (accepted : ℕ) → next ≡ slices.with_next
+            (sliced_in directory.now.state (search_of spec.now) (start_of start) persists
+            accepted)
+            (length directory.now.state.writes) self.now) }
+    {
+        let uuids = self.walk.next_piece()?;
+        let mut gathering = self.gathering(start)?;
+        gather_piece(directory, spec, start, uuids.as_slice(), &mut gathering)?;
+        let walk = self.walk.after_piece(uuids.as_slice())?;
+        let marks = self.marks_with(directory)?;
+        if !walk.is_over() {
+            let changed = self.changed.copy()?;
+            return decided(self.alloc, marks, walk, changed, gathering);
+        }
+        gather_end(directory, spec, persists, &self.changed, &mut gathering)?;
+        let changed = ChangedSet::new(self.alloc);
+        decided(
+            self.alloc,
+            marks,
+            Walk::none(self.alloc),
+            changed,
+            gathering,
+        )
+    }
+
+    /// The names that wait, to be gathered with what is decided next.
+    fn gathering(&self, start: Start) -> Result<Gathering, NoMemory>
+        ensures { IfOk result (λ gathering. gathering ≡ record {
+          deletes = is_delete_phase (start_of start);
+          messages = [];
+          names = self.now.names;
+        }) }
+    {
+        let names = self.names.as_slice().to_vec(self.alloc)?;
+        Ok(Gathering::new(self.alloc, start.deletes(), names))
+    }
+
+    /// The numbers of writes at the pieces, and that of now.
+    fn marks_with(&self, directory: &Directory) -> Result<Vec<u64>, NoMemory>
+        ensures { IfOk result (λ marks.
+            marks.items ≡ self.now.marks ++ length directory.now.state.writes ∷ []) }
+    {
+        let mut marks = self.marks.as_slice().to_vec(self.alloc)?;
+        marks.push(directory.accepted().len() as u64)?;
+        Ok(marks)
     }
 }
 
-/// The message of a part, in a delete phase or a present phase.
-fn part_message(
+/// A refresh of which this is left, with what was gathered.
+fn decided(
     alloc: Global,
-    id: u32,
-    deletes: bool,
-    part: &RefreshItem,
-) -> Result<Message, NoMemory>
-    ensures { IfOk result
-        (λ message. message_value message ≡ sent id (message_of deletes part.now)) }
+    marks: Vec<u64>,
+    walk: Walk,
+    changed: ChangedSet,
+    gathering: Gathering,
+) -> Result<PendingRefresh, NoMemory>
+    ensures { IfOk result (λ refresh. refresh ≡ record {
+      marks = marks.items;
+      left = walk;
+      names = gathering.names;
+      changed = changed;
+      rest = gathering.messages;
+      due = [];
+    }) }
 {
-    match part {
-        RefreshItem::Whole(entry) => entry_message(alloc, id, true, entry, None),
-        RefreshItem::Names(uuids) => id_set_message(alloc, id, deletes, uuids.list()),
-    }
-}
-
-/// A value that copies can share.
-pub(crate) fn shared<T: Drop>(alloc: Global, value: T) -> Result<Arc<T>, NoMemory>
-    ensures { IfOk result (λ shared. shared.value ≡ value) }
-{
-    match Arc::new(alloc, value) {
-        Ok(shared) => Ok(shared),
-        Err(_) => Err(AllocError),
-    }
+    let (items, names) = gathering.into_parts();
+    let parts = Parts::new(alloc, items)?;
+    Ok(PendingRefresh {
+        alloc,
+        marks,
+        walk,
+        names,
+        changed,
+        parts,
+    })
 }

@@ -1,10 +1,11 @@
 //! The messages of later writes, to a search that goes on after its refresh (RFC 4533, section
 //! 3.4).
 
-ghost use Rattle.std.specs.Prelude.{◌≡◌, ◌<◌, false, Some, None, IfOk};
+ghost use Rattle.std.specs.Prelude.{◌≡◌, ◌<◌, ◌∷◌, [], false, Some, None, IfOk};
 ghost use Rattle.csn_cookie.specs.Cookie.{cookie_text};
 ghost use Rattle.directory_writes.specs.Weights as spec;
 ghost use Rattle.ldap_messages.specs.Whole.{message_value};
+ghost use Rattle.sync_model.specs.Incremental.{about};
 ghost use Rattle.sync_wire.specs.Sending.{sent};
 ghost use Rattle.sync_provider.specs.Search.{is_end};
 ghost use Rattle.sync_provider.specs.Staging.{message_of_change, with_cookie, counted_weight};
@@ -89,14 +90,13 @@ impl PersistMessage {
         })
     }
 
-    /// Whether it ends its search, which no message of a write does.
-    #[tactic(auto, using(crate::proofs::Saying::change_goes))]
-    pub(crate) fn is_end(&self) -> bool
-        ensures { result ≡ is_end self.now }
+    /// The identity that it is about.
+    pub(crate) fn uuid(&self) -> u128
+        ensures { about self.now ≡ result ∷ [] }
     {
         match &self.change {
-            ContentChange::Added(_) | ContentChange::Modified(_) => false,
-            ContentChange::Deleted(_, _) => false,
+            ContentChange::Added(entry) | ContentChange::Modified(entry) => entry.uuid,
+            ContentChange::Deleted(uuid, _) => *uuid,
         }
     }
 

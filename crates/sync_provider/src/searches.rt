@@ -15,7 +15,7 @@ ghost use Rattle.sync_provider.specs.Search.{opening};
 ghost use Rattle.sync_provider.specs.declared.searches.Accepted.TheVariants.{Opened, Refused};
 
 use crate::open_search::{OpenSearch, SearchOpening};
-use crate::refreshing::refresh;
+use crate::pending_refresh::PendingRefresh;
 use crate::search_table::MOST_SEARCHES;
 use crate::sync_directory::SyncDirectory;
 use csn_cookie::is_blank;
@@ -140,7 +140,7 @@ impl SyncDirectory {
     }
 
     /// Opens a search with this number, and answers how many writes the directory has.
-    #[tactic(auto, using(crate::proofs::Held::held_opened))]
+    #[tactic(auto, using(crate::proofs::Held::held_opened, crate::proofs::Pieces::first_due))]
     fn open(&mut self, number: u64, asked: SearchOpening) -> Result<u64, NoMemory>
         requires served { CanBegin self.old.directory (start_of asked.start) }
         requires number { IsSearchNumber number }
@@ -152,11 +152,18 @@ impl SyncDirectory {
         }) }
         ensures err { OnErr result (self.new ≡ self.old) }
     {
-        match refresh(self.alloc, &self.directory, &asked.spec, asked.start) {
-            Ok(parts) => {
+        let spec = &asked.spec;
+        let begun = PendingRefresh::new(
+            self.alloc,
+            &self.directory,
+            spec,
+            asked.start,
+            asked.persists,
+        );
+        match begun {
+            Ok(refresh) => {
                 let accepted = self.writes();
-                let cookie = self.directory.cookie();
-                let search = OpenSearch::new(self.alloc, asked, accepted, parts, cookie)?;
+                let search = OpenSearch::new(self.alloc, asked, accepted, refresh)?;
                 self.searches.put(number, search);
                 Ok(accepted)
             }

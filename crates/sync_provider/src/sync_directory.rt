@@ -94,47 +94,13 @@ impl SyncDirectory {
         let Some(mut search) = self.searches.remove(number) else {
             return Handed::NoSuchSearch;
         };
-        let handed = search.hand_out();
+        let handed = search.hand_out(&self.directory);
         if handed.is_end() {
             discard(search);
             return handed;
         }
         self.searches.put(number, search);
         handed
-    }
-
-    /// The message with n before it of those that the search with this number has pending. None is
-    /// handed out.
-    #[tactic(auto, using(crate::proofs::AtPlace::found_after, crate::proofs::AtPlace::none_after, crate::proofs::AtPlace::found_is_message))]
-    pub fn pending_at(&self, number: u64, place: usize) -> Handed
-        ensures turn { IfSome (handing.turn_of result)
-            (λ turn. turn
-            ≡ handing.turn_at_place self.now.directory self.now.searches number place) }
-        ensures memory { result ≡ Handed.NoMemory
-            → handing.has_message
-            (handing.turn_at_place self.now.directory self.now.searches number place)
-            ≡ true }
-    {
-        match self.searches.get(number) {
-            Some(search) => search.pending_at(place),
-            None => Handed::NoSuchSearch,
-        }
-    }
-
-    /// The next message of the search with this number counts as handed out. It takes no memory.
-    #[tactic(auto, using(crate::proofs::AtPlace::skips_last, crate::proofs::AtPlace::skips_on, crate::proofs::AtPlace::skips_none))]
-    pub fn skip(&mut self, number: u64)
-        ensures { self.new ≡ machine.handed_out self.old number }
-    {
-        let Some(mut search) = self.searches.remove(number) else {
-            return;
-        };
-        if search.is_ending() {
-            discard(search);
-            return;
-        }
-        search.advance();
-        self.searches.put(number, search);
     }
 
     /// Closes the search with this number. False where none is open.

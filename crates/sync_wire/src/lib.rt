@@ -18,4 +18,6 @@ pub use kind::tag_of;
 pub use laws::sent_is_decoded;
 pub use ldap_ber::NoMemory;
 pub use request::search_request;
-pub use sending::{delete_message, done_message, end_message, entry_message, id_set_message};
+pub use sending::{
+    delete_message, done_message, end_message, entry_message, id_set_message, present_end_message,
+};

@@ -5,7 +5,7 @@ ghost use Rattle.dn_names.specs.Writing.{name_text};
 ghost use Rattle.ldap_messages.specs.Operation as operation;
 ghost use Rattle.ldap_messages.specs.Whole.{message_value};
 ghost use Rattle.sync_model.specs.Message.{phase_end};
-ghost use Rattle.sync_model.specs.Message.SyncMessage.{AddOrModify, Delete, IdSet, Done};
+ghost use Rattle.sync_model.specs.Message.SyncMessage.{AddOrModify, Delete, IdSet, RefreshPresent, Done};
 ghost use Rattle.sync_model.specs.Stream.{end_of};
 ghost use Rattle.sync_wire.specs.Sending.{sent, attributes_of, operational_attributes_of, single as attribute, state_control, info_name, result_of, uuid_text};
 
@@ -59,6 +59,16 @@ pub fn end_message(
     } else {
         refresh_end_message(alloc, id, deletes, text)
     }
+}
+
+/// The Sync Info message with which a present phase ends and a delete phase begins, without a
+/// cookie (RFC 4533, section 3.3.2). It is `NoMemory` where memory runs out.
+pub fn present_end_message(alloc: Global, id: u32) -> Result<Message, NoMemory>
+    ensures { IfOk result
+        (λ message. message_value message ≡ sent id (RefreshPresent false None)) }
+{
+    let value = SyncInfo::RefreshPresent(None, false).write(alloc)?;
+    info_message(alloc, id, value)
 }
 
 /// The Sync Info message refreshDelete or refreshPresent, with which the refresh is done.

@@ -8,6 +8,7 @@ use Rattle.syncrepl_tool.specs.DrillWords.{IsDrill, IsDrillStatus, IsPlanOf}
 use Rattle.syncrepl_tool.specs.Searching.{IsSearch, SearchAsked}
 use Rattle.syncrepl_tool.specs.Serve.{IsServe}
 use Rattle.syncrepl_tool.proofs.NumberWords.{same_number}
+use Rattle.syncrepl_tool.proofs.SearchForms.{bytes_same}
 
 -- ---- no words are of two forms
 
@@ -75,9 +76,6 @@ same_plan (v ∷ w ∷ x ∷ y ∷ z ∷ more ∷ words) one other first second 
 plan_as : (s s' w w' c c' z z' : List ℕ) (plan : DrillPlan) → s ≡ s' → w ≡ w' → c ≡ c' → z ≡ z' → IsPlanOf s w c z plan → IsPlanOf s' w' c' z' plan
 plan_as s s' w w' c c' z z' plan p q r t is =
     ((is.0.0, is.0.1, sym p ∙ is.0.2), (is.1.0, is.1.1, sym q ∙ is.1.2), (is.2.0, is.2.1, sym r ∙ is.2.2), (is.3.0, is.3.1, sym t ∙ is.3.2))
-
-bytes_same : (one other : String Global) → one ≡ other → string_bytes one ≡ string_bytes other
-bytes_same one other same = ap (λ (s : String Global). string_bytes s) same
 
 -- five words are a drill's where the first is `drill`, and the others are of a plan
 pub drill_is : (words : List (String Global)) (word seed writers consumers size : String Global) (s w c z : List ℕ) (plan : DrillPlan) → length words ≡ 5

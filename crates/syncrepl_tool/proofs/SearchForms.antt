@@ -110,7 +110,8 @@ same_asked (word ∷ address ∷ base ∷ scope ∷ filter ∷ more) one other f
 asked_as : (a a' b b' s s' f f' : List ℕ) (more : List (String Global)) (asked : SearchAsked) → a ≡ a' → b ≡ b' → s ≡ s' → f ≡ f' → IsAskedBy a b s f more asked → IsAskedBy a' b' s' f' more asked
 asked_as a a' b b' s s' f f' more asked p q r t is = ((sym p ∙ is.0.0, is.0.1), (sym q ∙ is.1.0, is.1.1), sym r ∙ is.2, (sym t ∙ is.3.0, is.3.1), is.4)
 
-bytes_same : (one other : String Global) → one ≡ other → string_bytes one ≡ string_bytes other
+-- words that are one have the same bytes
+pub bytes_same : (one other : String Global) → one ≡ other → string_bytes one ≡ string_bytes other
 bytes_same one other same = ap (λ (s : String Global). string_bytes s) same
 
 -- what follows the first five

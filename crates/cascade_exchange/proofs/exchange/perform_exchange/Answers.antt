@@ -12,20 +12,20 @@ returns-in-Ok-perform-clause-before c =
 
 pub restore-requires-clause-no_write : goal.restore-requires-clause-no_write
 restore-requires-clause-no_write c =
-    (refused_back c.args.exchange c.args.provider_node.now.provider c.perform.new.provider c.args.consumer_node.now c.perform.new.consumer_node c.perform.new.kept c.in-Ok.before (record c.in-Ok.before { own = c.perform.new.kept }) c.in-Ok.ensures.search c.in-Ok.ensures.consumer_node c.in-Ok.ensures.steps refl (c.perform.ensures.kept c.in-Ok.ensures.own) c.perform.ensures.provider c.perform.ensures.untouched c.in-Err.ensures.provider_err c.in-Err.ensures.consumer_node_err).no_write
+    (refused_back c.args.exchange c.args.provider_node.now.provider c.perform.new.provider c.args.consumer_node.now c.perform.new.consumer_node c.perform.new.kept c.in-Ok.before (record c.in-Ok.before { own = c.perform.new.kept }) c.in-Ok.ensures.search c.in-Ok.ensures.consumer_node c.in-Ok.ensures.steps refl (c.perform.ensures.kept c.in-Ok.ensures.own) c.perform.ensures.provider c.perform.ensures.untouched c.in-Err.ensures.err).no_write
 
 pub restore-requires-clause-ours : goal.restore-requires-clause-ours
 restore-requires-clause-ours c =
-    (refused_back c.args.exchange c.args.provider_node.now.provider c.perform.new.provider c.args.consumer_node.now c.perform.new.consumer_node c.perform.new.kept c.in-Ok.before (record c.in-Ok.before { own = c.perform.new.kept }) c.in-Ok.ensures.search c.in-Ok.ensures.consumer_node c.in-Ok.ensures.steps refl (c.perform.ensures.kept c.in-Ok.ensures.own) c.perform.ensures.provider c.perform.ensures.untouched c.in-Err.ensures.provider_err c.in-Err.ensures.consumer_node_err).ours
+    (refused_back c.args.exchange c.args.provider_node.now.provider c.perform.new.provider c.args.consumer_node.now c.perform.new.consumer_node c.perform.new.kept c.in-Ok.before (record c.in-Ok.before { own = c.perform.new.kept }) c.in-Ok.ensures.search c.in-Ok.ensures.consumer_node c.in-Ok.ensures.steps refl (c.perform.ensures.kept c.in-Ok.ensures.own) c.perform.ensures.provider c.perform.ensures.untouched c.in-Err.ensures.err).ours
 
 pub returns-in-Err-clause-err : goal.returns-in-Err-clause-err
 returns-in-Err-clause-err c =
     ap (λ p. record c.args.provider_node.now { provider = p })
-    (c.restore.ensures.provider ∙ (refused_back c.args.exchange c.args.provider_node.now.provider c.perform.new.provider c.args.consumer_node.now c.perform.new.consumer_node c.perform.new.kept c.in-Ok.before (record c.in-Ok.before { own = c.perform.new.kept }) c.in-Ok.ensures.search c.in-Ok.ensures.consumer_node c.in-Ok.ensures.steps refl (c.perform.ensures.kept c.in-Ok.ensures.own) c.perform.ensures.provider c.perform.ensures.untouched c.in-Err.ensures.provider_err c.in-Err.ensures.consumer_node_err).same_provider)
+    (c.restore.ensures.provider ∙ (refused_back c.args.exchange c.args.provider_node.now.provider c.perform.new.provider c.args.consumer_node.now c.perform.new.consumer_node c.perform.new.kept c.in-Ok.before (record c.in-Ok.before { own = c.perform.new.kept }) c.in-Ok.ensures.search c.in-Ok.ensures.consumer_node c.in-Ok.ensures.steps refl (c.perform.ensures.kept c.in-Ok.ensures.own) c.perform.ensures.provider c.perform.ensures.untouched c.in-Err.ensures.err).same_provider)
 
 pub returns-in-Err-clause-consumer_node_err : goal.returns-in-Err-clause-consumer_node_err
 returns-in-Err-clause-consumer_node_err c =
-    c.restore.ensures.consumer_node ∙ (refused_back c.args.exchange c.args.provider_node.now.provider c.perform.new.provider c.args.consumer_node.now c.perform.new.consumer_node c.perform.new.kept c.in-Ok.before (record c.in-Ok.before { own = c.perform.new.kept }) c.in-Ok.ensures.search c.in-Ok.ensures.consumer_node c.in-Ok.ensures.steps refl (c.perform.ensures.kept c.in-Ok.ensures.own) c.perform.ensures.provider c.perform.ensures.untouched c.in-Err.ensures.provider_err c.in-Err.ensures.consumer_node_err).same_consumer_node
+    c.restore.ensures.consumer_node ∙ (refused_back c.args.exchange c.args.provider_node.now.provider c.perform.new.provider c.args.consumer_node.now c.perform.new.consumer_node c.perform.new.kept c.in-Ok.before (record c.in-Ok.before { own = c.perform.new.kept }) c.in-Ok.ensures.search c.in-Ok.ensures.consumer_node c.in-Ok.ensures.steps refl (c.perform.ensures.kept c.in-Ok.ensures.own) c.perform.ensures.provider c.perform.ensures.untouched c.in-Err.ensures.err).same_consumer_node
 
 pub returns-in-Ok-perform-clause-unstaged : goal.returns-in-Ok-perform-clause-unstaged
 returns-in-Ok-perform-clause-unstaged c at_once =

@@ -1,10 +1,9 @@
-use Rattle.std.proofs.Common.{inl, inr, refl, sym}
-use Rattle.sync_io.proofs.Results.{holds_anyway}
-use Rattle.directory_setup.proofs.ReadTexts.{text_read}
+use Rattle.std.proofs.Common.{◌≡◌, inl, inr, refl, sym}
+use Rattle.std.proofs.lemmas.Result.{err_from_is_err_and}
+use Rattle.directory_setup.specs.declared.setup.Configured.TheVariants.{Config, ReadFault, Refused}
+use Rattle.directory_setup.proofs.ReadFaults.{read_fails, reads_in_part, reads_well}
+use Rattle.directory_setup.proofs.ReadTexts.{text_came}
 use Rattle.directory_setup.proofs.setup.configure.Goals as goal
-
-pub returns-in-Failed-clause-failed : goal.returns-in-Failed-clause-failed
-returns-in-Failed-clause-failed g c = λ _. c.in_ok-found.ensures.failed c.in-Failed.is
 
 pub returns-in-Some-clause-configures : goal.returns-in-Some-clause-configures
 returns-in-Some-clause-configures g c = (
@@ -33,19 +32,35 @@ returns-clause-configures g c = (
   inr (sym (rw c.as_slice-bytes.ensures at c.in_default.ensures), c.in-Err.fault, c.in_ok-refusal-in-Err.ensures.0, rw c.as_slice-bytes.ensures at c.in-Err.ensures.fault, c.in_ok-refusal-in-Err.ensures.1),
 )
 
-pub returns-in-Some-clause-sound : goal.returns-in-Some-clause-sound
-returns-in-Some-clause-sound g c = λ _. text_read _ _ c.in-Text.text c.in-Text.is c.in_ok-found.ensures.sound
+-- ---- the faults of the shelf
 
-pub returns-in-Ok-clause-sound : goal.returns-in-Ok-clause-sound
-returns-in-Ok-clause-sound g c = λ _. text_read _ _ c.in-Text.text c.in-Text.is c.in_ok-found.ensures.sound
+pub returns-in-Failed-clause-faults : goal.returns-in-Failed-clause-faults
+returns-in-Failed-clause-faults g c = read_fails _ _ ReadFault _ _ c.in_ok-found.ensures.faults c.in-Failed.is
 
-pub returns-clause-sound : goal.returns-clause-sound
-returns-clause-sound g c = λ _. text_read _ _ c.in-Text.text c.in-Text.is c.in_ok-found.ensures.sound
+pub returns-in-Some-clause-faults : goal.returns-in-Some-clause-faults
+returns-in-Some-clause-faults g c =
+    reads_well _ _ ReadFault _ _ _ c.in_ok-found.ensures.faults (text_came _ c.in-Text.text c.in-Text.is)
+    (λ is. let wrong : Refused _ ≡ ReadFault = is in cc)
+
+pub returns-in-Ok-clause-faults : goal.returns-in-Ok-clause-faults
+returns-in-Ok-clause-faults g c =
+    reads_well _ _ ReadFault _ _ _ c.in_ok-found.ensures.faults (text_came _ c.in-Text.text c.in-Text.is)
+    (λ is. let wrong : Config _ ≡ ReadFault = is in cc)
+
+pub returns-clause-faults : goal.returns-clause-faults
+returns-clause-faults g c =
+    reads_well _ _ ReadFault _ _ _ c.in_ok-found.ensures.faults (text_came _ c.in-Text.text c.in-Text.is)
+    (λ is. let wrong : Refused _ ≡ ReadFault = is in cc)
 
 -- where memory ran out
 
-pub returns-in_err-found-clause-err : goal.returns-in_err-found-clause-err
-returns-in_err-found-clause-err g c = holds_anyway c.from_residual.result c.in_err-found.ensures.err
+pub returns-in_err-found-clause-faults : goal.returns-in_err-found-clause-faults
+returns-in_err-found-clause-faults g c =
+    let ran = err_from_is_err_and c.from_residual.result c.from_residual.ensures.1 in
+    reads_in_part _ c.from_residual.result ran.0 _ _ ran.1 c.in_err-found.ensures.faults.err
 
-pub returns-in_err-refusal-in-Err-clause-err : goal.returns-in_err-refusal-in-Err-clause-err
-returns-in_err-refusal-in-Err-clause-err g c = holds_anyway c.from_residual-in_err-refusal-in-Err.result (text_read _ _ c.in-Text.text c.in-Text.is c.in_ok-found.ensures.sound)
+pub returns-in_err-refusal-in-Err-clause-faults : goal.returns-in_err-refusal-in-Err-clause-faults
+returns-in_err-refusal-in-Err-clause-faults g c =
+    let ran = err_from_is_err_and c.from_residual-in_err-refusal-in-Err.result c.from_residual-in_err-refusal-in-Err.ensures.1 in
+    reads_in_part _ c.from_residual-in_err-refusal-in-Err.result ran.0 _ _ ran.1
+    (c.in_ok-found.ensures.faults.sound (text_came _ c.in-Text.text c.in-Text.is))

@@ -43,10 +43,10 @@ returns-in-Ok-clause-servable g c =
           (has_seats c.in-Ok.loading _ (seats_within c.requires.read.0 c.args.config c.requires.read.1));
       filter = subst (λ setup. HasFilter setup) (sym c.setup_of.ensures) (has_filter c.in-Ok.loading _ c.requires.filter);
       failed = subst (λ setup. FailsOn setup shelf shelf' words words') (sym c.setup_of.ensures)
-          (fails_of c.in-Ok.loading _ shelf shelf' words words' (c.in_ok-provider.ensures.sound (rw c.in-Some.is refl)) c.in-Ok.ensures.sound c.in-Ok.ensures.failed);
+          (fails_of c.in-Ok.loading _ shelf shelf' words words' (c.in_ok-provider.ensures.sound (rw c.in-Some.is refl)) c.in-Ok.ensures.faults.sound c.in-Ok.ensures.faults.failed);
       sound = tt;
       files = search rules;
-      shelf_later = search rules;
+      shelf_later = c.in-Ok.ensures.faults.later;
       words_later = search rules;
     }
 
@@ -78,8 +78,8 @@ returns-in-Err-clause-servable g c = record {
   seats = tt;
   filter = tt;
   failed = tt;
-  sound = (c.in-Err.ensures.err, c.in_ok-provider.ensures.sound (rw c.in-Some.is refl));
+  sound = (c.in-Err.ensures.faults.err, c.in_ok-provider.ensures.sound (rw c.in-Some.is refl));
   files = search rules;
-  shelf_later = search rules;
+  shelf_later = c.in-Err.ensures.faults.later;
   words_later = search rules;
 }

@@ -22,7 +22,7 @@ returns-in-Config-clause-sets_up g c =
 pub returns-in-Config-clause-servable : goal.returns-in-Config-clause-servable
 returns-in-Config-clause-servable g c =
     let made = c.make.ensures.servable in
-    let read = rw c.in-Config.is at c.in_ok-configured.ensures.sound in
+    let read = rw c.in-Config.is at c.in_ok-configured.ensures.faults.sound in
     let same = read (λ is. let wrong : Config c.in-Config.config ≡ ReadFault = is in cc) in
     record {
       seats = made.seats;
@@ -39,14 +39,14 @@ returns-in-Refused-clause-sets_up g c = inl (rw c.in-Refused.is at c.in_ok-confi
 
 pub returns-in-Refused-clause-servable : goal.returns-in-Refused-clause-servable
 returns-in-Refused-clause-servable g c =
-    let read = rw c.in-Refused.is at c.in_ok-configured.ensures.sound in
+    let read = rw c.in-Refused.is at c.in_ok-configured.ensures.faults.sound in
     record {
       seats = tt;
       filter = tt;
       failed = (read (λ is. let wrong : Refused c.in-Refused.refusal ≡ ReadFault = is in cc), refl);
       sound = tt;
       files = c.in_ok-configured.ensures.files;
-      shelf_later = c.in_ok-configured.ensures.later;
+      shelf_later = c.in_ok-configured.ensures.faults.later;
       words_later = search rules;
     }
 
@@ -54,10 +54,10 @@ pub returns-in-ReadFault-clause-servable : goal.returns-in-ReadFault-clause-serv
 returns-in-ReadFault-clause-servable g c = record {
   seats = tt;
   filter = tt;
-  failed = inl (c.in_ok-configured.ensures.failed c.in-ReadFault.is);
+  failed = inl (c.in_ok-configured.ensures.faults.failed c.in-ReadFault.is);
   sound = tt;
   files = c.in_ok-configured.ensures.files;
-  shelf_later = c.in_ok-configured.ensures.later;
+  shelf_later = c.in_ok-configured.ensures.faults.later;
   words_later = search rules;
 }
 
@@ -66,5 +66,5 @@ pub returns-in_err-configured-clause-servable : goal.returns-in_err-configured-c
 returns-in_err-configured-clause-servable g c =
     let ran = err_from_is_err_and c.from_residual.result c.from_residual.ensures.1 in
     let files = c.in_err-configured.ensures.files in
-    let later = c.in_err-configured.ensures.later in
-    rw ran.1 (record { seats = tt; filter = tt; failed = tt; sound = (c.in_err-configured.ensures.err, refl); files = files; shelf_later = later; words_later = search rules })
+    let later = c.in_err-configured.ensures.faults.later in
+    rw ran.1 (record { seats = tt; filter = tt; failed = tt; sound = (c.in_err-configured.ensures.faults.err, refl); files = files; shelf_later = later; words_later = search rules })

@@ -1,5 +1,5 @@
 -- One more entry, before those that are noted.
-use Rattle.std.proofs.Common.{◌∙◌, map, reverse, option_map, ap, sym, subst, Bor, Vec, Global, ℕ, rules}
+use Rattle.std.proofs.Common.{◌≡◌, ◌<◌, ◌∙◌, map, reverse, option_map, length, ap, sym, subst, refl, List, [], ◌∷◌, None, Bor, Vec, Global, ℕ, rules, arith}
 use Rattle.std.specs.BTreeMap.{get}
 use Rattle.std.specs.Cmp.Lexicographic.{slice_cmp}
 use Rattle.std.specs.Option.{option_or}
@@ -11,6 +11,15 @@ use Rattle.entry_writes.specs.State.{same_named}
 use Rattle.entry_tree.proofs.Naming.{Notes, notes-cons, pair-cons}
 use Rattle.entry_tree.proofs.Naming.{noted_more, noted_all}
 use Rattle.entry_tree.proofs.held.same_named.Goals as goal
+
+-- one entry alone has no other's name
+alone : (entries : List (Bor Entry)) → length entries < 2 → None ≡ same_named (map (λ (e : Bor Entry). e.now) entries)
+alone [] few = refl
+alone (e ∷ []) few = refl
+alone (e ∷ d ∷ entries) few = absurd (omega (arith, few))
+
+pub returns-then-entries-lt2 : goal.returns-then-entries-lt2
+returns-then-entries-lt2 c = alone c.args.entries.now c.if-entries-lt2.true
 
 pub loop-entry-preserved : goal.loop-entry-preserved
 loop-entry-preserved c =

@@ -1,10 +1,14 @@
-use Rattle.std.proofs.Common.{◌≡◌, ◌++◌, length}
+use Rattle.std.proofs.Common.{◌≡◌, ◌≤◌, ◌++◌, drop, length, reverse}
 use Rattle.std.specs.List.{flat_map}
+use Rattle.ldap_server.proofs.InBatches.{entries_in}
 use Rattle.ldap_server.proofs.batches.in_batches.Given as goal
 
--- the entries are those of the batches, and then the rest
-abbrev pub invariant-loop-rest : goal.invariant-loop-rest
-invariant-loop-rest l = l.entries ≡ flat_map (λ batch. batch.items) l.batches.items ++ l.rest
+-- the entries from the place on are those that are left from there on, and then those of the batches, of which the last is the first
+abbrev pub invariant-loop-left : goal.invariant-loop-left
+invariant-loop-left l = record {
+  within : l.place ≤ length l.left.items;
+  all : drop l.place l.fn.entries.items ≡ drop l.place l.left.items ++ flat_map entries_in (reverse l.batches.items);
+}
 
-abbrev pub decreases-loop-rest : goal.decreases-loop-rest
-decreases-loop-rest l = length l.rest
+abbrev pub decreases-loop-left : goal.decreases-loop-left
+decreases-loop-left l = length l.left.items

@@ -1,18 +1,11 @@
 -- A pair that is put in below a node goes before or after the pair of that node.
-use Rattle.std.proofs.Common.{◌∷◌, ◌++◌, Bool, length, sym, ap, ap₂, ◌∙◌, Less, Equal, Greater}
-use Rattle.std.proofs.lemmas.Result.{on_ok_weaker, on_err_weaker}
-use Rattle.std.specs.Prelude.{Result, Ok, Err, IfOk}
+use Rattle.std.proofs.Common.{◌∷◌, ◌++◌, length, sym, ap, ap₂, ◌∙◌, Less, Equal, Greater}
+use Rattle.std.proofs.lemmas.Result.{IfOk-weaker, on_ok_weaker, on_err_weaker}
 use Rattle.shared_map.specs.Nodes.{pair_of, pairs}
 use Rattle.shared_map.proofs.Around.{insert_entry-around}
 use Rattle.shared_map.proofs.Counts.{count-lower, count-higher, count-same}
 use Rattle.shared_map.proofs.Keys.{ascends_before, ascends_after}
 use Rattle.shared_map.proofs.in_place.+putting.Goals as goal
-
--- what is said of each answer follows from what is said of it otherwise
-each-ok : {E : Type 0} {P Q : Bool → Type 0} (r : Result Bool E) → ((b : Bool) → P b → Q b)
-    → IfOk r P → IfOk r Q
-each-ok (Ok b) more p = more b p
-each-ok (Err error) more p = tt
 
 -- on the side of lower keys, of higher keys, and at the key
 pub put_below-returns-in-Less : goal.put_below-returns-in-Less
@@ -29,7 +22,7 @@ put_below-returns-in-Less g t c =
           (pairs node.lower) (pair_of node.pair) (pairs node.higher) ascends Less is))
           (below.ok (ascends_before g.K.Ord.cmp (pairs node.lower)
           (pair_of node.pair ∷ pairs node.higher) ascends));
-      count = each-ok c.put_into-lower.result.1
+      count = IfOk-weaker c.put_into-lower.result.1 _ _
           (λ is_new count. ap length c.set_lower.ensures
           ∙ count-lower is_new (pairs node.lower) (pairs c.put_into-lower.result.0) count
           (pair_of node.pair) (pairs node.higher))
@@ -54,7 +47,7 @@ put_below-returns-in-Greater g t c =
           (pairs node.lower) (pair_of node.pair) (pairs node.higher) ascends Greater is))
           (below.ok (ascends_after g.K.Ord.cmp (pairs node.lower) (pair_of node.pair)
           (pairs node.higher) ascends));
-      count = each-ok c.put_into-higher.result.1
+      count = IfOk-weaker c.put_into-higher.result.1 _ _
           (λ is_new count. ap length c.set_higher.ensures
           ∙ count-higher is_new (pairs node.higher) (pairs c.put_into-higher.result.0) count
           (pair_of node.pair) (pairs node.lower))

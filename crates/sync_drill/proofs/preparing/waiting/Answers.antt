@@ -13,5 +13,5 @@ returns-clause-taking c =
     record {
       spec = ap (λ (s : ConsumerState). s.spec) is ∙ c.in_ok-spec.ensures;
       made = subst (λ items. IsMadeOf items copy.copy) (sym c.requires)
-          (record { messages = []; read = tt; is = ap (λ (s : ConsumerState). s.copy) is });
+          (record { messages = []; read = tt; is = ap (λ (s : ConsumerState). s.copy) is; fit = tt });
     }

@@ -27,37 +27,26 @@ pub returns-in-Settle-clause-untouched : goal.returns-in-Settle-clause-untouched
 returns-in-Settle-clause-untouched c = λ stepwise.
     owes_nothing c.args.kept.now c.args.consumer_node.now.search c.args.provider.now c.settle.new.provider (c.requires.needed (ap moves_searches c.in-Settle.is))
 
-pub returns-in-Open-clause-provider_err : goal.returns-in-Open-clause-provider_err
-returns-in-Open-clause-provider_err c = in_steps c.args.self (ap is_stepwise c.in-Open.is)
+pub returns-in-Open-clause-err : goal.returns-in-Open-clause-err
+returns-in-Open-clause-err c = in_steps c.args.self (ap is_stepwise c.in-Open.is)
 
-pub returns-in-Open-clause-consumer_node_err : goal.returns-in-Open-clause-consumer_node_err
-returns-in-Open-clause-consumer_node_err c = in_steps c.args.self (ap is_stepwise c.in-Open.is)
+pub returns-in-Settle-clause-err : goal.returns-in-Settle-clause-err
+returns-in-Settle-clause-err c = in_steps c.args.self (ap is_stepwise c.in-Settle.is)
 
-pub returns-in-Settle-clause-provider_err : goal.returns-in-Settle-clause-provider_err
-returns-in-Settle-clause-provider_err c = in_steps c.args.self (ap is_stepwise c.in-Settle.is)
-
-pub returns-in-Settle-clause-consumer_node_err : goal.returns-in-Settle-clause-consumer_node_err
-returns-in-Settle-clause-consumer_node_err c = in_steps c.args.self (ap is_stepwise c.in-Settle.is)
-
-pub returns-in-Take-clause-provider_err : goal.returns-in-Take-clause-provider_err
-returns-in-Take-clause-provider_err c = in_steps c.args.self (ap is_stepwise c.in-Take.is)
-
-pub returns-in-Take-clause-consumer_node_err : goal.returns-in-Take-clause-consumer_node_err
-returns-in-Take-clause-consumer_node_err c = in_steps c.args.self (ap is_stepwise c.in-Take.is)
+pub returns-in-Take-clause-err : goal.returns-in-Take-clause-err
+returns-in-Take-clause-err c = in_steps c.args.self (ap is_stepwise c.in-Take.is)
 
 pub returns-in-Take-clause-untouched : goal.returns-in-Take-clause-untouched
 returns-in-Take-clause-untouched c = λ stepwise. c.take.ensures.untouched
 
--- ---- exchanges in one step
-
 pub returns-in-Send-clause-untouched : goal.returns-in-Send-clause-untouched
-returns-in-Send-clause-untouched c = λ stepwise. in_steps c.args.self stepwise (ap is_stepwise c.in-Send.is)
+returns-in-Send-clause-untouched c = λ stepwise.
+    owes_nothing c.args.kept.now c.args.consumer_node.now.search c.args.provider.now c.send.new.provider (c.requires.needed (ap moves_searches c.in-Send.is))
 
-pub returns-in-Send-clause-provider_err : goal.returns-in-Send-clause-provider_err
-returns-in-Send-clause-provider_err c = λ at_once. c.send.ensures.provider_err
+pub returns-in-Send-clause-err : goal.returns-in-Send-clause-err
+returns-in-Send-clause-err c = in_steps c.args.self (ap is_stepwise c.in-Send.is)
 
-pub returns-in-Send-clause-consumer_node_err : goal.returns-in-Send-clause-consumer_node_err
-returns-in-Send-clause-consumer_node_err c = λ at_once. c.send.ensures.consumer_node_err
+-- ---- exchanges in one step
 
 pub returns-in-Cut-clause-untouched : goal.returns-in-Cut-clause-untouched
 returns-in-Cut-clause-untouched c = λ stepwise. in_steps c.args.self stepwise (ap is_stepwise c.in-Cut.is)
@@ -74,26 +63,14 @@ returns-in-CutIfBusy-clause-untouched c = λ stepwise. in_steps c.args.self step
 pub returns-in-Respec-clause-untouched : goal.returns-in-Respec-clause-untouched
 returns-in-Respec-clause-untouched c = λ stepwise. in_steps c.args.self stepwise (ap is_stepwise c.in-Respec.is)
 
-pub returns-in-Cut-clause-provider_err : goal.returns-in-Cut-clause-provider_err
-returns-in-Cut-clause-provider_err c = λ at_once. c.cut.ensures.provider_err
+pub returns-in-Cut-clause-err : goal.returns-in-Cut-clause-err
+returns-in-Cut-clause-err c = λ at_once. c.cut.ensures.err
 
-pub returns-in-Cut-clause-consumer_node_err : goal.returns-in-Cut-clause-consumer_node_err
-returns-in-Cut-clause-consumer_node_err c = λ at_once. c.cut.ensures.consumer_node_err
+pub returns-in-CutIfBusy-clause-err : goal.returns-in-CutIfBusy-clause-err
+returns-in-CutIfBusy-clause-err c = λ at_once. c.cut_if_busy.ensures.err
 
-pub returns-in-CutIfBusy-clause-provider_err : goal.returns-in-CutIfBusy-clause-provider_err
-returns-in-CutIfBusy-clause-provider_err c = λ at_once. c.cut_if_busy.ensures.provider_err
+pub returns-in-Respec-clause-err : goal.returns-in-Respec-clause-err
+returns-in-Respec-clause-err c = λ at_once. c.respec.ensures.err
 
-pub returns-in-CutIfBusy-clause-consumer_node_err : goal.returns-in-CutIfBusy-clause-consumer_node_err
-returns-in-CutIfBusy-clause-consumer_node_err c = λ at_once. c.cut_if_busy.ensures.consumer_node_err
-
-pub returns-in-Respec-clause-provider_err : goal.returns-in-Respec-clause-provider_err
-returns-in-Respec-clause-provider_err c = λ at_once. c.respec.ensures.provider_err
-
-pub returns-in-Respec-clause-consumer_node_err : goal.returns-in-Respec-clause-consumer_node_err
-returns-in-Respec-clause-consumer_node_err c = λ at_once. c.respec.ensures.consumer_node_err
-
-pub returns-in-SetCookie-clause-provider_err : goal.returns-in-SetCookie-clause-provider_err
-returns-in-SetCookie-clause-provider_err c = λ at_once. on_err_weaker c.set_cookie.result (λ same. refl) c.set_cookie.ensures.err
-
-pub returns-in-SetCookie-clause-consumer_node_err : goal.returns-in-SetCookie-clause-consumer_node_err
-returns-in-SetCookie-clause-consumer_node_err c = λ at_once. c.set_cookie.ensures.err
+pub returns-in-SetCookie-clause-err : goal.returns-in-SetCookie-clause-err
+returns-in-SetCookie-clause-err c = λ at_once. on_err_weaker c.set_cookie.result (λ same. (refl, same)) c.set_cookie.ensures.err

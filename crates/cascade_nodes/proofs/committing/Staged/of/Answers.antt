@@ -10,7 +10,7 @@ use Rattle.sync_provider.specs.declared.committing.StagedCommit.{StagedCommit}
 use Rattle.cascade_report.specs.ReportLines.{StoredStage}
 use Rattle.cascade_nodes.specs.Commits.{commit_of, note_of}
 use Rattle.cascade_nodes.proofs.committing.Staged.of.Goals as goal
-use Rattle.ldap_ber.proofs.Lists.{list_all-push}
+use Rattle.ldap_ber.proofs.Lists.{list_all_push}
 
 pub loop-stage-preserved : goal.loop-stage-preserved
 loop-stage-preserved c =
@@ -27,8 +27,8 @@ loop-stage-preserved c =
       notes = notes ∙ ap (λ ns. ns ++ note_of wants stage ∷ []) is.notes ∙ sym (map-append (note_of wants) so_far (stage ∷ []));
       sound =
           subst (λ cs. list_all (λ (commit : StagedCommit). list_all is_sound_put commit.puts) cs ≡ true) (sym commits)
-          (list_all-push (λ (commit : StagedCommit). list_all is_sound_put commit.puts) before.commits.items (commit_of stage) is.sound fit.sound);
+          (list_all_push (λ (commit : StagedCommit). list_all is_sound_put commit.puts) before.commits.items (commit_of stage) is.sound fit.sound);
       light =
           subst (λ cs. list_all (λ (commit : StagedCommit). list_all is_within_entry_limit commit.puts) cs ≡ true) (sym commits)
-          (list_all-push (λ (commit : StagedCommit). list_all is_within_entry_limit commit.puts) before.commits.items (commit_of stage) is.light fit.light);
+          (list_all_push (λ (commit : StagedCommit). list_all is_within_entry_limit commit.puts) before.commits.items (commit_of stage) is.light fit.light);
     }

@@ -4,7 +4,7 @@ use Rattle.link_rings.specs.Ends.{offered}
 use Rattle.sync_drill.specs.Going.{HasGoneOn}
 use Rattle.sync_drill.proofs.Going.{goes-twice}
 use Rattle.sync_drill.proofs.HandingSteps.{handing-as, may_open-as}
-use Rattle.sync_drill.proofs.Turns.{done-waiting, end_spelled, handed_out-goes, handing-message, message_spelled, may_open-closed}
+use Rattle.sync_drill.proofs.Turns.{done-waiting, end_spelled, handed_out-goes, handing-message, message_spelled, may_open-closed, never_unknown}
 use Rattle.sync_drill.proofs.handing_out.HandingOut.hand_on.Goals as goal
 
 -- ---- a message
@@ -103,10 +103,12 @@ returns-in-Nothing-clause-nothing g c =
     λ none. done-waiting old.consumer old.search (g.P.Port.state old.port) (g.P.Port.state c.hand_out.new.self) (offered old.producer)
     c.requires.handing c.in-Nothing.ensures.replies
 
-pub returns-in-NoSuchSearch-clause-goes_on : goal.returns-in-NoSuchSearch-clause-goes_on
-returns-in-NoSuchSearch-clause-goes_on g c =
+-- its search is open
+pub unreachable-requires : goal.unreachable-requires
+unreachable-requires g c =
+    let old = c.args.self.now in
     let state = g.P.Port.state in
-    handed_out-goes c.args.self.now.search (state c.args.self.now.port) (state c.hand_out.new.self) c.hand_out.result c.hand_out.ensures.replies
+    never_unknown old.consumer old.search (state old.port) (state c.hand_out.new.self) (offered old.producer) c.requires.handing c.in-NoSuchSearch.ensures.replies
 
 pub returns-in-NoMemory-clause-goes_on : goal.returns-in-NoMemory-clause-goes_on
 returns-in-NoMemory-clause-goes_on g c =

@@ -1,0 +1,10 @@
+use Rattle.std.proofs.Common.{◌≡◌, ◌++◌, length}
+use Rattle.entry_tree.specs.IdentityOrder.{above}
+use Rattle.sync_provider.proofs.changed_set.ChangedSet.list.Given as goal
+
+-- those so far, followed by the ones above the last of them, are all
+abbrev pub invariant-loop : goal.invariant-loop
+invariant-loop l = record {
+  counted : length l.uuids.items ≡ l.counter;
+  all : l.uuids.items ++ above l.last l.self ≡ l.self;
+}
