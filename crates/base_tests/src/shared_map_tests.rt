@@ -32,6 +32,10 @@ map put 1 10;remove 1;values;len;put 1 11;values => ok,ok,[],0,ok,[11],
 # A copy stays as it was
 map put 1 10;put 2 20;copy;put 2 21;put 3 30;values;old => ok,ok,ok,ok,ok,[10, 21, 30],[10, 20],
 map put 1 10;put 2 20;copy;remove 1;values;old => ok,ok,ok,ok,[20],[10, 20],
+# A pair of the copy comes in, and then each has its own changes
+map put 1 10;copy;put 1 11;share 1;values;old => ok,ok,ok,ok,[10],[10],
+map put 1 10;put 2 20;copy;remove 2;share 2;put 2 21;values;old => ok,ok,ok,ok,ok,ok,[10, 21],[10, 20],
+map put 3 30;copy;remove 3;share 1;len;share 4;values;old => ok,ok,ok,ok,1,None,[30],[30],
 ";
 
 #[test]
@@ -118,6 +122,7 @@ fn after_call(
         "remove" => done(alloc, map.remove(&number(of))),
         "copy" => done(alloc, copy(map, old)),
         "old" => values_shown(alloc, old.values()),
+        "share" => share(alloc, map, old, number(of)),
         _ => found(alloc, map, word, number(of)),
     }
 }
@@ -135,6 +140,14 @@ fn put(map: &mut Numbers, of: &str) -> Result<(), AllocError> {
 fn copy(map: &Numbers, old: &mut Numbers) -> Result<(), AllocError> {
     *old = map.copy()?;
     Ok(())
+}
+
+/// Puts the first pair of the other map in whose key is not below this one.
+fn share(alloc: Global, map: &mut Numbers, old: &Numbers, key: u64) -> Result<String, AllocError> {
+    match old.pair_from(&key) {
+        Some(pair) => done(alloc, map.insert_shared(pair)),
+        None => "None".to_string(alloc),
+    }
 }
 
 fn found(alloc: Global, map: &Numbers, word: &str, key: u64) -> Result<String, AllocError> {

@@ -27,7 +27,7 @@ fitting : (pair : Agreement) (search : Option ℕ) (message : List ℕ) → fits
 fitting pair search message fit = rw fit refl
 
 -- a message for which the link has no room overflows it
-pub full : (pair : Agreement) (search : Option ℕ) (message : List ℕ) → fits pair.consumer_node message ≡ false → sends pair search message ≡ Overflows
+full : (pair : Agreement) (search : Option ℕ) (message : List ℕ) → fits pair.consumer_node message ≡ false → sends pair search message ≡ Overflows
 full pair search message over = rw over refl
 
 -- a message is sent where it is handed out and goes into the link
@@ -44,7 +44,7 @@ sent_as lin p p1 f f1 f2 search message old new out link' =
     )
 
 -- a message that is handed out and put into the link is sent
-pub sends_one : (lin : Lineage) → (p p1 : ProviderState) (f f1 f2 : ConsumerNode) (turn : HandOut) (whole : MessageValue) (old new : Report) → agreement_of p1 f1 lin ≡ After lin p f turn → whole_in turn ≡ Some whole
+sends_one : (lin : Lineage) → (p p1 : ProviderState) (f f1 f2 : ConsumerNode) (turn : HandOut) (whole : MessageValue) (old new : Report) → agreement_of p1 f1 lin ≡ After lin p f turn → whole_in turn ≡ Some whole
     → Links f1 (message_octets whole) old f2 new (Ok tt) → SendsOne (agreement_of p f lin) (sending_by (agreement_of p f lin) turn) old (agreement_of p1 f2 lin) new (Ok true)
 sends_one lin p p1 f f1 f2 (Hands w) whole old new out is link' =
     let same : w ≡ whole = cc in

@@ -1,17 +1,15 @@
 -- Exchanges that are done in one step, in which no stage takes effect.
-use Rattle.std.proofs.Common.{◌≡◌, ℕ, zero, suc, false, List, [], ◌∷◌, ◌++◌, refl, ap, subst, ◌∙◌, inl, inr}
+use Rattle.std.proofs.Common.{◌≡◌, ℕ, false, List, [], ◌++◌, refl, ap, subst, ◌∙◌, inl, inr}
 use Rattle.std.proofs.lemmas.Bool.{cases_Bool}
 use Rattle.std.specs.Prelude.{⊤, Ok, Err}
 use Rattle.entry_tree.specs.Selection.{Search, search_of}
 use Rattle.cascade_exchange.specs.Cookies.{is_later}
-use Rattle.cascade_exchange.specs.Exchange.{Agreement, ExchangeOutcome, after_lines, name_of, copy_of, Sending, sending, sent_before, sent, is_busy, cut, idle, sets_cookie, respecs, part_of, is_stepwise}
-use Rattle.cascade_exchange.specs.Exchange.Sending.{Sends, Rests, Overflows}
+use Rattle.cascade_exchange.specs.Exchange.{Agreement, ExchangeOutcome, copy_of, is_busy, cut, idle, sets_cookie, respecs, part_of, is_stepwise}
 use Rattle.cascade_exchange.specs.Parts.{Does}
 use Rattle.cascade_exchange.specs.declared.exchange.Exchange.{Exchange}
 use Rattle.cascade_exchange.specs.declared.exchange.Exchange.TheVariants as goes
 use Rattle.cascade_report.specs.Report.{Report}
 use Rattle.cascade_report.specs.ReportLines.{stages_of}
-use Rattle.cascade_report.specs.ReportLines.ReportLine.{Sent}
 
 -- no stage is reported
 abbrev HasNoStage : ExchangeOutcome → Type 0
@@ -45,19 +43,6 @@ respecs_unstaged search pair =
       | inl busy ↦ rw busy refl
       | inr free ↦ rw free refl
     ]
-
-after_sent : (pair : Agreement) (message : List ℕ) (outcome : ExchangeOutcome) → HasNoStage outcome → HasNoStage (after_lines (Sent (name_of pair) message ∷ []) outcome)
-after_sent pair message (Ok next) none = none
-after_sent pair message (Err cause) none = tt
-
-sent_unstaged : (count : ℕ) (pair : Agreement) → HasNoStage (sent count pair)
-sent_unstaged zero pair = refl
-sent_unstaged (suc count) pair = by (sent_unstaged count) (sending pair)
-  where
-    by : ((after : Agreement) → HasNoStage (sent count after)) → (found : Sending) → HasNoStage (sent_before (λ after. sent count after) pair found)
-    by rest (Sends after message) = after_sent pair message (sent count after) (rest after)
-    by rest Rests = refl
-    by rest Overflows = tt
 
 part_unstaged : (what : Exchange) (pair : Agreement) → is_stepwise what ≡ false → HasNoStage (part_of what pair)
 part_unstaged (goes.Open mode) pair at_once = let never : ⊥ = cc in absurd never

@@ -144,7 +144,8 @@ impl ScriptProvider {
         self.provider.set_log_limit(limit);
     }
 
-    /// The queue of each search holds n messages at most, from the next write on.
+    /// The queue of each search holds n messages at most, from the next write on, or, while pieces
+    /// of its refresh are left, n identities may have changed.
     pub fn set_queue_limit(&mut self, limit: u64)
         ensures { self.new ≡ machine.queue_limited self.old limit }
     {

@@ -20,13 +20,14 @@ pub(crate) struct Previous {
 }
 
 impl Previous {
-    /// The entries after the last write. Without memory they are lost.
-    pub(crate) fn caught_up(self) -> Result<Tree, NoMemory>
+    /// The entries after the last write, which share with these, where they are the same, what that
+    /// write brought. Without memory they are lost.
+    pub(crate) fn caught_up(self, like: &Tree) -> Result<Tree, NoMemory>
         requires { CanBeMade self.tree self.changes }
         ensures { IfOk result (λ tree. tree ≡ with_changes self.tree self.changes) }
     {
         let Previous { tree, changes } = self;
-        tree.changed_by(&changes)
+        tree.changed_as(like, &changes)
     }
 }
 

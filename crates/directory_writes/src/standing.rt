@@ -131,7 +131,7 @@ impl Standing {
     {
         let previous = mem::replace(&mut self.previous, None);
         match previous {
-            Some(previous) => previous.caught_up(),
+            Some(previous) => previous.caught_up(&self.tree),
             None => self.tree.copy(),
         }
     }

@@ -256,7 +256,7 @@ fn read_rdns(alloc: Global, bytes: usize, chars: &[NameChar]) -> Result<Vec<Rdn>
     ensures fault { IfErr result (IsNameFault (rdns_of most_rdns bytes chars.now)) }
     ensures sound { IfOk result (λ rdns. IsName rdns.items) }
 {
-    let mut rdns = Vec::new(alloc);
+    let mut rdns = Vec::with_capacity(alloc, rdn_room(chars))?;
     let mut rest = chars;
     'rdns: loop {
         let place = bytes - width_of(rest);
@@ -271,6 +271,17 @@ fn read_rdns(alloc: Global, bytes: usize, chars: &[NameChar]) -> Result<Vec<Rdn>
             None => return Ok(rdns),
         }
     }
+}
+
+/// How many RDNs the characters are cut into, 32 at most, as a hint of the room that they need.
+fn rdn_room(chars: &[NameChar]) -> usize {
+    let mut room: usize = 1;
+    for name_char in chars {
+        if name_char.is_plain(b',') {
+            room = room.saturating_add(1);
+        }
+    }
+    room.min(MOST_RDNS)
 }
 
 fn copies(alloc: Global, rdns: &[Rdn]) -> Result<Vec<Rdn>, NoMemory>

@@ -1,22 +1,24 @@
 //! The identities of entries by the path keys of their names, in order.
-ghost use Rattle.std.specs.Prelude.{◌≡◌, ◌<◌, ℕ, ◌==◌, true, false, not, [], length, filter, IfOk, OnOk, if◌then◌else◌};
+ghost use Rattle.std.specs.Prelude.{◌≡◌, ◌<◌, ℕ, ◌&&◌, ◌==◌, true, false, not, [], length, filter, IfOk, IfSome, OnOk, if◌then◌else◌, bytes_eq};
 ghost use Rattle.std.specs.List.{list_any};
 ghost use Rattle.entry_tree.specs.NameIndex as index;
 ghost use Rattle.entry_writes.specs.Touched.{joined};
 
 use crate::after::add_each;
 use ldap_ber::NoMemory;
-use shared_map::SharedMap;
+use shared_map::{MapPair, SharedMap};
 use std::alloc::Global;
 use std::collections::BTreeSet;
 
 /// The identities that stand at each path key; at each there is one at least.
 pub(crate) type Names = SharedMap<Vec<u8>, Vec<u128>>;
 
-/// Notes the identity at the path key.
+/// Notes the identity at the path key. What stands there then is shared with the other index where
+/// that has the same.
 pub(crate) fn note(
     alloc: Global,
     names: &mut Names,
+    like: &Names,
     path: &[u8],
     uuid: u128,
 ) -> Result<(), NoMemory>
@@ -26,13 +28,14 @@ pub(crate) fn note(
 {
     let mut uuids = others_at(alloc, names, path, uuid)?;
     uuids.push(uuid)?;
-    write(alloc, names, path, uuids)
+    write(alloc, names, like, path, uuids)
 }
 
-/// Takes the identity away from the path key.
+/// Takes the identity away from the path key. What is left there is shared in the same way.
 pub(crate) fn forget(
     alloc: Global,
     names: &mut Names,
+    like: &Names,
     path: &[u8],
     uuid: u128,
 ) -> Result<(), NoMemory>
@@ -41,11 +44,18 @@ pub(crate) fn forget(
     ensures some { OnOk result (index.HasNoEmpty names.new) }
 {
     let uuids = others_at(alloc, names, path, uuid)?;
-    write(alloc, names, path, uuids)
+    write(alloc, names, like, path, uuids)
 }
 
-/// Lets these identities alone stand at the path key.
-fn write(alloc: Global, names: &mut Names, path: &[u8], uuids: Vec<u128>) -> Result<(), NoMemory>
+/// Lets these identities alone stand at the path key. The pair is shared with the other index where
+/// that has the same.
+fn write(
+    alloc: Global,
+    names: &mut Names,
+    like: &Names,
+    path: &[u8],
+    uuids: Vec<u128>,
+) -> Result<(), NoMemory>
     requires { index.HasNoEmpty names.old }
     ensures written { OnOk result (index.Writes names.old names.new path.now uuids.items) }
     ensures some { OnOk result (index.HasNoEmpty names.new) }
@@ -54,18 +64,62 @@ fn write(alloc: Global, names: &mut Names, path: &[u8], uuids: Vec<u128>) -> Res
         let _ = names.len();
         return names.remove(path);
     }
+    match same_pair(like, path, &uuids) {
+        Some(pair) => names.insert_shared(pair),
+        None => write_anew(alloc, names, path, uuids),
+    }
+}
+
+/// The same for some identities, in memory of their own.
+fn write_anew(
+    alloc: Global,
+    names: &mut Names,
+    path: &[u8],
+    uuids: Vec<u128>,
+) -> Result<(), NoMemory>
+    requires some { 0 < length uuids.items }
+    requires others { index.HasNoEmpty names.old }
+    ensures written { OnOk result (index.Writes names.old names.new path.now uuids.items) }
+    ensures some { OnOk result (index.HasNoEmpty names.new) }
+{
     let key = copied(alloc, path)?;
     names.insert(key, uuids)
 }
 
-/// The identities at the path key, without this one.
+/// The pair of the path key, where these identities stand there in this order.
+fn same_pair<'a>(
+    names: &'a Names,
+    path: &[u8],
+    uuids: &[u128],
+) -> Option<&'a MapPair<Vec<u8>, Vec<u128>>>
+    ensures { IfSome result (λ pair.
+        (pair.now.key.value.items ≡ path.now) × (pair.now.value.value.items ≡ uuids.now)) }
+{
+    let Some(pair) = names.pair_from(path) else {
+        return None;
+    };
+    if is_pair_of(pair, path, uuids) {
+        return Some(pair);
+    }
+    None
+}
+
+/// Whether these identities stand at the path key in this order.
+fn is_pair_of(pair: &MapPair<Vec<u8>, Vec<u128>>, path: &[u8], uuids: &[u128]) -> bool
+    ensures { result ≡ (bytes_eq pair.now.key.value.items path.now
+        && bytes_eq pair.now.value.value.items uuids.now) }
+{
+    pair.key().as_slice() == path && pair.value().as_slice() == uuids
+}
+
+/// The identities at the path key, without this one; where there are none, with room for one.
 fn others_at(alloc: Global, names: &Names, path: &[u8], uuid: u128) -> Result<Vec<u128>, NoMemory>
     ensures { IfOk result (λ uuids.
         uuids.items ≡ filter (λ id. not (id == uuid)) (index.ids_at names.now path.now)) }
 {
     match names.get(path) {
         Some(uuids) => others(alloc, uuids, uuid),
-        None => Ok(Vec::new(alloc)),
+        None => Vec::with_capacity(alloc, 1),
     }
 }
 

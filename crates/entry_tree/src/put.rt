@@ -1,17 +1,19 @@
 //! Changes that are put in place.
-ghost use Rattle.std.specs.Prelude.{◌≡◌, ◌≤◌, ◌+◌, ◌-◌, ◌^◌, min, true, [], ◌∷◌, fold, IfOk, OnOk, OnErr};
+ghost use Rattle.std.specs.Prelude.{◌≡◌, ◌≤◌, ◌+◌, ◌-◌, ◌^◌, ◌&&◌, ◌==◌, min, true, [], ◌∷◌, fold, IfOk, IfSome, OnOk, OnErr};
 ghost use Rattle.std.specs.BTreeMap.{is_at, insert_entry};
 ghost use Rattle.std.specs.Map.{remove_entry, values_of};
 ghost use Rattle.std.specs.Ordering.{nat_cmp};
 ghost use Rattle.entry_tree.specs.NameIndex.{by_identity};
+ghost use Rattle.entry_writes.specs.Bytes as bytes;
 ghost use Rattle.entry_writes.specs.State as state;
 ghost use Rattle.entry_writes.specs.Touched as changing;
 
 use crate::reindex::reindexed;
 use crate::strays::strays_with;
 use crate::tree::{Entries, Tree};
-use entry_writes::{Entry, EntryChange, Touched};
+use entry_writes::{Entry, EntryChange, Touched, is_one_entry};
 use ldap_ber::NoMemory;
+use shared_map::MapPair;
 
 impl Tree {
     /// Puts changes in place that are exactly what differs after them and leave a directory, as
@@ -43,11 +45,21 @@ impl Tree {
         ensures { IfOk result (λ after.
             after ≡ changing.with_changes self entry_changes.now) }
     {
+        let nothing = Tree::new(self.alloc);
+        self.changed_as(&nothing, entry_changes)
+    }
+
+    /// The same, where what comes in is shared with another tree that has it too.
+    pub fn changed_as(self, like: &Tree, entry_changes: &Touched) -> Result<Tree, NoMemory>
+        requires { changing.CanBeMade self entry_changes.now }
+        ensures { IfOk result (λ after.
+            after ≡ changing.with_changes self entry_changes.now) }
+    {
         let changes = entry_changes.list();
         let weight = weight_with(self.weight, changes);
         let strays = strays_with(&self.strays, changes);
-        let names = reindexed(self.alloc, self.names, changes)?;
-        let entries = changed(self.entries, changes)?;
+        let names = reindexed(self.alloc, self.names, &like.names, changes)?;
+        let entries = changed(self.entries, &like.entries, changes)?;
         Ok(Tree {
             alloc: self.alloc,
             entries,
@@ -59,7 +71,7 @@ impl Tree {
 }
 
 /// The entries after the changes.
-fn changed(entries: Entries, changes: &[EntryChange]) -> Result<Entries, NoMemory>
+fn changed(entries: Entries, like: &Entries, changes: &[EntryChange]) -> Result<Entries, NoMemory>
     requires keyed { entries ≡ by_identity (values_of entries) }
     requires ascends { state.ascends (values_of entries) ≡ true }
     ensures { IfOk result (λ after.
@@ -67,7 +79,7 @@ fn changed(entries: Entries, changes: &[EntryChange]) -> Result<Entries, NoMemor
 {
     let mut after = entries;
     remove_each(&mut after, changes)?;
-    put_each(&mut after, changes)?;
+    put_each(&mut after, like, changes)?;
     Ok(after)
 }
 
@@ -97,28 +109,62 @@ fn remove_one(entries: &mut Entries, change: &EntryChange) -> Result<(), NoMemor
 }
 
 /// Puts each of the entries that the changes leave or make in its place.
-fn put_each(entries: &mut Entries, changes: &[EntryChange]) -> Result<(), NoMemory>
+fn put_each(entries: &mut Entries, like: &Entries, changes: &[EntryChange]) -> Result<(), NoMemory>
     ensures { OnOk result (entries.new
         ≡ fold (λ held entry. insert_entry nat_cmp held entry.uuid entry) entries.old
         (changing.puts_of changes.now)) }
 {
     for change in changes {
-        put_one(entries, change)?;
+        put_one(entries, like, change)?;
     }
     Ok(())
 }
 
 /// Puts the entry that the change leaves or makes in its place.
-fn put_one(entries: &mut Entries, change: &EntryChange) -> Result<(), NoMemory>
+fn put_one(entries: &mut Entries, like: &Entries, change: &EntryChange) -> Result<(), NoMemory>
     ensures ok { OnOk result (entries.new
         ≡ fold (λ held entry. insert_entry nat_cmp held entry.uuid entry) entries.old
         (changing.puts_of (change.now ∷ []))) }
     ensures err { OnErr result (entries.new ≡ entries.old) }
 {
     match &change.after {
-        Some(entry) => entries.insert(entry.uuid, entry.copy()?),
+        Some(entry) => put_entry(entries, like, entry),
         None => Ok(()),
     }
+}
+
+/// Puts the entry at its identity. It is shared with the other entries where these have the same.
+fn put_entry(entries: &mut Entries, like: &Entries, entry: &Entry) -> Result<(), NoMemory>
+    ensures ok { OnOk result
+        (entries.new ≡ insert_entry nat_cmp entries.old entry.now.uuid entry.now) }
+    ensures err { OnErr result (entries.new ≡ entries.old) }
+{
+    match same_pair(like, entry) {
+        Some(pair) => entries.insert_shared(pair),
+        None => entries.insert(entry.uuid, entry.copy()?),
+    }
+}
+
+/// The pair of the entry, where it is among the entries.
+fn same_pair<'a>(entries: &'a Entries, entry: &Entry) -> Option<&'a MapPair<u128, Entry>>
+    ensures { IfSome result (λ pair.
+        (pair.now.key.value ≡ entry.now.uuid) × (pair.now.value.value ≡ entry.now)) }
+{
+    let Some(pair) = entries.pair_from(&entry.uuid) else {
+        return None;
+    };
+    if is_pair_of(pair, entry) {
+        return Some(pair);
+    }
+    None
+}
+
+/// Whether it is the entry at its identity.
+fn is_pair_of(pair: &MapPair<u128, Entry>, entry: &Entry) -> bool
+    ensures { result ≡ ((pair.now.key.value == entry.now.uuid)
+        && bytes.is_one_entry pair.now.value.value entry.now) }
+{
+    *pair.key() == entry.uuid && is_one_entry(pair.value(), entry)
 }
 
 /// What entries that weigh so much weigh after the changes.

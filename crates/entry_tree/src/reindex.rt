@@ -8,10 +8,11 @@ use ldap_ber::NoMemory;
 use std::alloc::Global;
 
 /// The index after the changes: without the names that they take away, and with those that they
-/// bring.
+/// bring. What stands at these is shared with the other index where that has the same.
 pub(crate) fn reindexed(
     alloc: Global,
     names: Names,
+    like: &Names,
     changes: &[EntryChange],
 ) -> Result<Names, NoMemory>
     requires { index.HasNoEmpty names }
@@ -23,13 +24,18 @@ pub(crate) fn reindexed(
     ensures placed { OnOk result (All index.BringsPathKey changes.now) }
 {
     let mut after = names;
-    forget_each(alloc, &mut after, changes)?;
-    note_each(alloc, &mut after, changes)?;
+    forget_each(alloc, &mut after, like, changes)?;
+    note_each(alloc, &mut after, like, changes)?;
     Ok(after)
 }
 
 /// Takes the names away that the changes take from their identities.
-fn forget_each(alloc: Global, names: &mut Names, changes: &[EntryChange]) -> Result<(), NoMemory>
+fn forget_each(
+    alloc: Global,
+    names: &mut Names,
+    like: &Names,
+    changes: &[EntryChange],
+) -> Result<(), NoMemory>
     requires { index.HasNoEmpty names.old }
     ensures forgotten { OnOk result ((path : List ℕ) (uuid : ℕ)
         → index.stands_at names.new path uuid
@@ -37,13 +43,25 @@ fn forget_each(alloc: Global, names: &mut Names, changes: &[EntryChange]) -> Res
     ensures some { OnOk result (index.HasNoEmpty names.new) }
 {
     for change in changes {
-        leave(alloc, names, change.uuid, &change.before, &change.after)?;
+        leave(
+            alloc,
+            names,
+            like,
+            change.uuid,
+            &change.before,
+            &change.after,
+        )?;
     }
     Ok(())
 }
 
 /// Notes the names that the changes bring to their identities.
-fn note_each(alloc: Global, names: &mut Names, changes: &[EntryChange]) -> Result<(), NoMemory>
+fn note_each(
+    alloc: Global,
+    names: &mut Names,
+    like: &Names,
+    changes: &[EntryChange],
+) -> Result<(), NoMemory>
     requires { index.HasNoEmpty names.old }
     ensures noted { OnOk result ((path : List ℕ) (uuid : ℕ)
         → index.stands_at names.new path uuid
@@ -52,7 +70,14 @@ fn note_each(alloc: Global, names: &mut Names, changes: &[EntryChange]) -> Resul
     ensures placed { OnOk result (All index.BringsPathKey changes.now) }
 {
     for change in changes {
-        arrive(alloc, names, change.uuid, &change.after, &change.before)?;
+        arrive(
+            alloc,
+            names,
+            like,
+            change.uuid,
+            &change.after,
+            &change.before,
+        )?;
     }
     Ok(())
 }
@@ -61,6 +86,7 @@ fn note_each(alloc: Global, names: &mut Names, changes: &[EntryChange]) -> Resul
 fn leave(
     alloc: Global,
     names: &mut Names,
+    like: &Names,
     uuid: u128,
     gone: &Option<Entry>,
     kept: &Option<Entry>,
@@ -79,7 +105,7 @@ fn leave(
             if has_path(kept, path) {
                 return Ok(());
             }
-            forget(alloc, names, path, uuid)
+            forget(alloc, names, like, path, uuid)
         }
         None => Ok(()),
     }
@@ -89,6 +115,7 @@ fn leave(
 fn arrive(
     alloc: Global,
     names: &mut Names,
+    like: &Names,
     uuid: u128,
     come: &Option<Entry>,
     had: &Option<Entry>,
@@ -107,7 +134,7 @@ fn arrive(
             if has_path(had, path) {
                 return Ok(());
             }
-            note(alloc, names, path, uuid)
+            note(alloc, names, like, path, uuid)
         }
         None => Ok(()),
     }

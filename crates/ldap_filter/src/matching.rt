@@ -11,7 +11,7 @@ ghost use Rattle.ldap_filter.specs.Truth as truth;
 
 use crate::filter::Pieces;
 use ldap_ber::{NoMemory, Octets, OctetsList};
-use schema_rules::{Attribute, AttributeType, Rule, key_of};
+use schema_rules::{Attribute, AttributeType, Rule, known_key};
 use std::alloc::{AllocError, Global};
 use std::str;
 use text_keys::{KeyFault, piece_key};
@@ -55,7 +55,7 @@ pub(crate) fn equal_test(
 ) -> Result<Option<Test>, NoMemory>
     ensures { IfOk result (λ test. test ≡ spec.equal_test kind value.now) }
 {
-    match known_key(alloc, kind, value)? {
+    match key_of(alloc, kind, value)? {
         None => Ok(None),
         Some(key) => Ok(Some(Test::Equal(key))),
     }
@@ -143,7 +143,7 @@ fn matches(
 ) -> Result<bool, NoMemory>
     ensures { IfOk result (λ found. found ≡ spec.matches kind test.now value.now) }
 {
-    match known_key(alloc, kind, value.as_slice())? {
+    match key_of(alloc, kind, value.as_slice())? {
         None => Ok(false),
         Some(key) => Ok(test.passes(kind.rule(), key)),
     }
@@ -170,18 +170,14 @@ impl Test {
 }
 
 /// The key of a value, or nothing where the value is not of its type's syntax.
-#[tactic(auto, using(crate::proofs::Keys::number_key), unfolding(schema_rules::specs::Keys::key_of))]
-fn known_key(alloc: Global, kind: AttributeType, value: &[u8]) -> Result<Option<Octets>, NoMemory>
+#[tactic(auto, using(crate::proofs::Keys::number_key))]
+fn key_of(alloc: Global, kind: AttributeType, value: &[u8]) -> Result<Option<Octets>, NoMemory>
     ensures key { IfOk result (λ key. key ≡ keys.key_of kind value.now) }
     ensures is_key { IfOk result (λ key. IfSome key (spec.IsKey (schema.type_rule kind))) }
 {
-    if kind.operational() {
-        return Ok(None);
-    }
-    match key_of(alloc, kind, value) {
-        Ok(key) => Ok(Some(Octets::from(key))),
-        Err(KeyFault::NotUtf8 | KeyFault::NotOfSyntax) => Ok(None),
-        Err(KeyFault::NoMemory) => Err(AllocError),
+    match known_key(alloc, kind, value)? {
+        None => Ok(None),
+        Some(key) => Ok(Some(key)),
     }
 }
 
@@ -191,7 +187,7 @@ fn known_key(alloc: Global, kind: AttributeType, value: &[u8]) -> Result<Option<
 fn rank_of(alloc: Global, kind: AttributeType, value: &[u8]) -> Result<Option<Rank>, NoMemory>
     ensures { IfOk result (λ rank. rank ≡ spec.rank_of kind value.now) }
 {
-    match known_key(alloc, kind, value)? {
+    match key_of(alloc, kind, value)? {
         None => Ok(None),
         Some(key) => Ok(rank_by(kind.rule(), key)),
     }

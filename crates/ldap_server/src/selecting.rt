@@ -32,7 +32,7 @@ const ALL_OPERATIONAL: &[u8] = b"+";
 /// By how many entries it is guessed how long an answer will be.
 const SAMPLE: usize = 64;
 
-/// For how many octets room is made at once: a directory weighs no more.
+/// For how many octets room is made at first, at most. A longer answer makes more as it grows.
 const MOST_ROOM: usize = 67_108_864;
 
 /// What a search asks to be sent of each entry.

@@ -1,5 +1,6 @@
 //! The queue of a persistent search (RFC 4533, section 3.4.2): the messages of the writes that were
-//! accepted since its refresh, which its consumer has not been handed yet, in their order.
+//! accepted since the last piece of its refresh was decided, which its consumer has not been handed
+//! yet, in their order.
 //!
 //! A queue is bounded in the number and in the weight of what it holds, so a consumer that does
 //! not keep up can't take the provider's memory. The messages of a write go in together or not at

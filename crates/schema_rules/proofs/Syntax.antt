@@ -1,5 +1,5 @@
 -- Values that are seen to have a key.
-use Rattle.std.proofs.Common.{◌≡◌, ℕ, suc, true, nat_lt, List, [], ◌∷◌, is_some, IsAscii, refl, ap, ◌∙◌}
+use Rattle.std.proofs.Common.{◌≡◌, ℕ, suc, true, nat_lt, List, [], ◌∷◌, Some, is_some, IsAscii, refl, ap, ◌∙◌}
 use Rattle.std.proofs.lemmas.Bool.{and_from, lt-ltb}
 use Rattle.text_keys.specs.Text.{ignore_case_key, exact_key}
 use Rattle.schema_rules.specs.declared.types.Rule.{Rule}
@@ -27,3 +27,16 @@ key_by-folded_ascii value ascii has = rw (is_ascii-from value ascii) has
 -- so it has where case counts
 pub key_by-exact_ascii : (value : List ℕ) → IsAscii value → is_some (exact_key value) ≡ true → is_some (key_by ExactAscii value) ≡ true
 key_by-exact_ascii value ascii has = rw (is_ascii-from value ascii) has
+
+-- a value has the key of its type that it has by the type's rule
+pub key_of-by : (kind : ℕ) (rule : Rule) (value key : List ℕ) → type_rule kind ≡ rule → key_by rule value ≡ Some key → key_of kind value ≡ Some key
+unfolding key_of
+key_of-by kind rule value key same has = ap (λ r. key_by r value) same ∙ has
+
+-- a value in ASCII that is its own key where case is ignored is so by the rule for ASCII
+pub own_key-folded_ascii : (value : List ℕ) → IsAscii value → ignore_case_key value ≡ Some value → key_by FoldedAscii value ≡ Some value
+own_key-folded_ascii value ascii own = rw (is_ascii-from value ascii) own
+
+-- so it is where case counts
+pub own_key-exact_ascii : (value : List ℕ) → IsAscii value → exact_key value ≡ Some value → key_by ExactAscii value ≡ Some value
+own_key-exact_ascii value ascii own = rw (is_ascii-from value ascii) own

@@ -12,7 +12,7 @@ use ldap_ber::{NoMemory, Octets};
 use std::alloc::{AllocError, Global};
 use std::str;
 use text_keys::{
-    KeyFault, boolean_key, exact_key, ignore_case_key, integer_key, is_plain, time_key,
+    KeyFault, boolean_key, exact_key, ignore_case_key, integer_key, is_own_key, is_plain, time_key,
 };
 
 /// The key of a value: two values of a type match exactly where their keys are the same bytes (RFC
@@ -139,6 +139,22 @@ fn shows_syntax(kind: AttributeType, value: &[u8]) -> bool
     }
 }
 
+/// Whether the value is seen to be its own key, as words in small letters and digits are.
+fn shows_own_key(kind: AttributeType, value: &[u8]) -> bool
+    ensures { IsTrue result → spec.key_of kind value.now ≡ Some value.now }
+{
+    match kind.rule() {
+        Rule::Class => false,
+        Rule::Folded => is_own_key(value),
+        Rule::FoldedAscii => is_own_key(value),
+        Rule::ExactAscii => is_own_key(value),
+        Rule::Whole => false,
+        Rule::Flag => false,
+        Rule::Time => false,
+        Rule::Operational => false,
+    }
+}
+
 /// The key of a value, or nothing where the value has none. It is `NoMemory` where memory runs out.
 #[tactic(auto, unfolding(crate::specs::Keys::key_of))]
 pub fn known_key(
@@ -148,6 +164,10 @@ pub fn known_key(
 ) -> Result<Option<Octets>, NoMemory>
     ensures { IfOk result (λ key. key ≡ spec.key_of kind value.now) }
 {
+    if shows_own_key(kind, value) {
+        let key = Octets::from_slice(alloc, value)?;
+        return Ok(Some(key));
+    }
     if kind.operational() {
         return Ok(None);
     }

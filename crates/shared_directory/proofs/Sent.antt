@@ -107,7 +107,7 @@ staged_group_send : IsSend StagedGroup.the_row
 staged_group_send = search (changed_set_send, messages.the_send, Vec-send, sendable) depth 20
 
 open_search_send : IsSend OpenSearch.the_row
-open_search_send = search (spec_send, spec_sync, queue_send, option.the_field_send, refresh_send, staged_group_send, starts.the_field_send, crosses, sendable) depth 30 fits 5000
+open_search_send = search (spec_send, spec_sync, queue_send, refresh_send, staged_group_send, starts.the_field_send, crosses, sendable) depth 30 fits 5000
 
 search_table_send : IsSend SearchTable.the_row
 search_table_send = search (open_search_send, option.the_send, crosses, sendable) depth 20

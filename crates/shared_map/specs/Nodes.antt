@@ -16,7 +16,7 @@ pair_of pair = (pair.key.value, pair.value.value)
 -- the pairs in their order: those of lower keys, the node's own, and those of higher keys
 abbrev pub pairs : {K V : Type 0} → Nodes K V → List (K × V)
 pairs Nothing = []
-pairs (Fork' p lower pair higher height) = pairs lower ++ pair_of pair ∷ pairs higher
+pairs (Fork' height p lower pair higher) = pairs lower ++ pair_of pair ∷ pairs higher
 
 -- the pairs of a node
 abbrev pub pairs_of : {K V : Type 0} → Node K V → List (K × V)

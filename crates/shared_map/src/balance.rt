@@ -56,7 +56,7 @@ fn lower_raised<K: Drop, V: Drop>(
 ) -> Result<Nodes<K, V>, AllocError>
     ensures { IfOk result (λ nodes. pairs nodes ≡ pairs lower ++ pair_of pair ∷ pairs higher) }
 {
-    let Nodes::Fork(node) = lower else {
+    let Nodes::Fork(_, node) = lower else {
         return fork(alloc, lower, pair, higher);
     };
     if node.higher.height() > node.lower.height() {
@@ -76,7 +76,7 @@ fn between_raised_from_lower<K: Drop, V: Drop>(
     ensures { IfOk result
         (λ nodes. pairs nodes ≡ pairs_of node.now ++ pair_of pair ∷ pairs higher) }
 {
-    let Nodes::Fork(between) = &node.higher else {
+    let Nodes::Fork(_, between) = &node.higher else {
         let higher = fork(alloc, Nodes::Nothing, pair, higher)?;
         return fork(alloc, node.lower.copy()?, node.pair.copy()?, higher);
     };
@@ -93,7 +93,7 @@ fn higher_raised<K: Drop, V: Drop>(
 ) -> Result<Nodes<K, V>, AllocError>
     ensures { IfOk result (λ nodes. pairs nodes ≡ pairs lower ++ pair_of pair ∷ pairs higher) }
 {
-    let Nodes::Fork(node) = higher else {
+    let Nodes::Fork(_, node) = higher else {
         return fork(alloc, lower, pair, higher);
     };
     if node.lower.height() > node.higher.height() {
@@ -114,7 +114,7 @@ fn between_raised_from_higher<K: Drop, V: Drop>(
     ensures { IfOk result
         (λ nodes. pairs nodes ≡ pairs lower ++ pair_of pair ∷ pairs_of node.now) }
 {
-    let Nodes::Fork(between) = &node.lower else {
+    let Nodes::Fork(_, between) = &node.lower else {
         let lower = fork(alloc, lower, pair, Nodes::Nothing)?;
         return fork(alloc, lower, node.pair.copy()?, node.higher.copy()?);
     };

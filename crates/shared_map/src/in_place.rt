@@ -3,7 +3,7 @@ ghost use Rattle.std.specs.Prelude.{◌≡◌, IfOk};
 ghost use Rattle.shared_map.specs.Nodes.{InsertsPair, pairs, pairs_of};
 
 use crate::balance::balanced;
-use crate::nodes::{MapPair, Node, Nodes};
+use crate::nodes::{MapPair, Node, Nodes, measured};
 use crate::placing::with_pair;
 use std::alloc::{AllocError, Global};
 use std::cmp::Ordering;
@@ -27,7 +27,7 @@ pub(crate) fn put_into<K: Ord + Drop, V: Drop>(
     }
     match nodes {
         Nodes::Nothing => put_anew(alloc, Nodes::Nothing, pair),
-        Nodes::Fork(shared) => put_into_node(alloc, levels - 1, shared, pair),
+        Nodes::Fork(_, shared) => put_into_node(alloc, levels - 1, shared, pair),
     }
 }
 
@@ -42,7 +42,7 @@ fn put_into_node<K: Ord + Drop, V: Drop>(
     ensures { InsertsPair K.cmp pair (pairs_of shared.value) (pairs result.0) result.1 }
 {
     let Some(node) = Arc::get_mut(&mut shared) else {
-        return put_anew(alloc, Nodes::Fork(shared), pair);
+        return put_anew(alloc, measured(shared), pair);
     };
     let answer = put_below(alloc, levels, node, pair);
     (in_balance(alloc, shared), answer)
@@ -98,11 +98,11 @@ pub(crate) fn in_balance<K: Drop, V: Drop>(alloc: Global, shared: Arc<Node<K, V>
     ensures { pairs result ≡ pairs_of shared.value }
 {
     if shared.is_level() {
-        return Nodes::Fork(shared);
+        return measured(shared);
     }
     match raised(alloc, &shared) {
         Ok(nodes) => nodes,
-        Err(_) => Nodes::Fork(shared),
+        Err(_) => measured(shared),
     }
 }
 

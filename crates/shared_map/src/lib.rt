@@ -16,5 +16,6 @@ mod taking_out;
 mod walking;
 
 pub use crossing::{map_is_sent, map_is_shared};
+pub use nodes::MapPair;
 pub use ordered::SharedMap;
 pub use queries::Query;

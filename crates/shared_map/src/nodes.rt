@@ -5,19 +5,21 @@ ghost use Rattle.shared_map.specs.Nodes.{pair_of, pairs, pairs_of};
 use std::alloc::{AllocError, Global};
 use std::sync::Arc;
 
-/// A key with its value. Both are shared, so that a node is made anew with no copy of them.
+/// A key with its value. Both are shared, so that a node is made anew with no copy of them, and so
+/// that several maps can have the same.
 #[derive(Drop)]
-pub(crate) struct MapPair<K, V> {
+pub struct MapPair<K, V> {
     pub(crate) key: Arc<K>,
     pub(crate) value: Arc<V>,
 }
 
-/// No pair, or a node with those below it.
+/// No pair, or a node with those below it, and how many nodes the longest way down has. The latter
+/// serves the balance alone.
 #[cycle(nodes)]
 #[derive(Drop)]
 pub(crate) enum Nodes<K, V> {
     Nothing,
-    Fork(Arc<Node<K, V>>),
+    Fork(u8, Arc<Node<K, V>>),
 }
 
 /// A pair between the pairs of lower keys and those of higher keys.
@@ -27,8 +29,22 @@ pub(crate) struct Node<K, V> {
     pub(crate) lower: Nodes<K, V>,
     pub(crate) pair: MapPair<K, V>,
     pub(crate) higher: Nodes<K, V>,
-    // How many nodes the longest way down has. It serves the balance alone.
-    height: u8,
+}
+
+impl<K, V> MapPair<K, V> {
+    /// Lends the key.
+    pub fn key(&self) -> &K
+        ensures { result.now ≡ self.now.key.value }
+    {
+        &self.key
+    }
+
+    /// Lends the value.
+    pub fn value(&self) -> &V
+        ensures { result.now ≡ self.now.value.value }
+    {
+        &self.value
+    }
 }
 
 impl<K: Drop, V: Drop> MapPair<K, V> {
@@ -46,7 +62,7 @@ impl<K, V> Nodes<K, V> {
     pub(crate) fn height(&self) -> u8 {
         match self {
             Nodes::Nothing => 0,
-            Nodes::Fork(node) => node.height,
+            Nodes::Fork(height, _) => *height,
         }
     }
 }
@@ -57,7 +73,7 @@ impl<K: Drop, V: Drop> Nodes<K, V> {
     {
         match self {
             Nodes::Nothing => Ok(Nodes::Nothing),
-            Nodes::Fork(node) => Ok(Nodes::Fork(node.clone()?)),
+            Nodes::Fork(height, node) => Ok(Nodes::Fork(*height, node.clone()?)),
         }
     }
 }
@@ -70,11 +86,10 @@ impl<K, V> Node<K, V> {
         lower <= higher.saturating_add(1) && higher <= lower.saturating_add(1)
     }
 
-    fn measure(&mut self)
-        ensures { pairs_of self.new ≡ pairs_of self.old }
-    {
+    /// One more than the greater of both heights.
+    fn height(&self) -> u8 {
         let below = self.lower.height().max(self.higher.height());
-        self.height = below.saturating_add(1);
+        below.saturating_add(1)
     }
 }
 
@@ -85,7 +100,6 @@ impl<K: Drop, V: Drop> Node<K, V> {
             ≡ pairs lower ++ pair_of self.old.pair ∷ pairs self.old.higher }
     {
         self.lower = lower;
-        self.measure();
     }
 
     /// Has these higher nodes from now on.
@@ -94,7 +108,6 @@ impl<K: Drop, V: Drop> Node<K, V> {
             ≡ pairs self.old.lower ++ pair_of self.old.pair ∷ pairs higher }
     {
         self.higher = higher;
-        self.measure();
     }
 }
 
@@ -107,17 +120,23 @@ pub(crate) fn fork<K: Drop, V: Drop>(
 ) -> Result<Nodes<K, V>, AllocError>
     ensures { IfOk result (λ nodes. pairs nodes ≡ pairs lower ++ pair_of pair ∷ pairs higher) }
 {
-    let height = lower.height().max(higher.height()).saturating_add(1);
     let node = Node {
         lower,
         pair,
         higher,
-        height,
     };
     match Arc::new(alloc, node) {
-        Ok(node) => Ok(Nodes::Fork(node)),
+        Ok(node) => Ok(measured(node)),
         Err(_) => Err(AllocError),
     }
+}
+
+/// The node and those below it, with the height that these say.
+pub(crate) fn measured<K, V>(node: Arc<Node<K, V>>) -> Nodes<K, V>
+    ensures { pairs result ≡ pairs_of node.value }
+{
+    let height = node.height();
+    Nodes::Fork(height, node)
 }
 
 /// A node with copies of these.

@@ -110,6 +110,14 @@ impl<K: Ord, V> SharedMap<K, V> {
         lent(pair_from(&self.root, key))
     }
 
+    /// The same pair, as another map can have it too.
+    pub fn pair_from<Q: Query<K>>(&self, key: Q) -> Option<&MapPair<K, V>>
+        ensures { option_map (λ pair. pair_of pair.now) result
+            ≡ lookup_entry (λ other. is_le (Q.compare key other)) self.now }
+    {
+        pair_from(&self.root, key)
+    }
+
     /// The first pair whose key is above what the query stands for.
     pub fn next_after<Q: Query<K>>(&self, key: Q) -> Option<(&K, &V)>
         ensures { option_map (λ pair. (pair.0.now, pair.1.now)) result
@@ -158,13 +166,33 @@ impl<K: Ord + Drop, V: Drop> SharedMap<K, V> {
         ensures ok { OnOk result (self.new ≡ insert_entry K.cmp self.old key value) }
         ensures err { OnErr result (self.new ≡ self.old) }
     {
-        if self.len == MOST_PAIRS {
-            return Err(AllocError);
-        }
         let pair = MapPair {
             key: Arc::new(self.alloc, key)?,
             value: Arc::new(self.alloc, value)?,
         };
+        self.insert_pair(pair)
+    }
+
+    /// Puts a pair of another map in, which both share then. A key that is there stays. It is
+    /// `AllocError` where memory runs out, and the map is as before.
+    pub fn insert_shared(&mut self, pair: &MapPair<K, V>) -> Result<(), AllocError>
+        ensures ok { OnOk result
+            (self.new ≡ insert_entry K.cmp self.old pair.now.key.value pair.now.value.value) }
+        ensures err { OnErr result (self.new ≡ self.old) }
+    {
+        let copy = pair.copy()?;
+        self.insert_pair(copy)
+    }
+
+    /// Puts the pair in, as `insert` does.
+    fn insert_pair(&mut self, pair: MapPair<K, V>) -> Result<(), AllocError>
+        ensures ok { OnOk result
+            (self.new ≡ insert_entry K.cmp self.old pair.key.value pair.value.value) }
+        ensures err { OnErr result (self.new ≡ self.old) }
+    {
+        if self.len == MOST_PAIRS {
+            return Err(AllocError);
+        }
         let root = mem::replace(&mut self.root, Nodes::Nothing);
         let (root, answer) = put_into(self.alloc, MOST_LEVELS, root, pair);
         self.root = root;

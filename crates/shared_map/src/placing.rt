@@ -27,7 +27,7 @@ pub(crate) fn with_pair<K: Ord + Drop, V: Drop>(
             let after = fork(alloc, Nodes::Nothing, pair, Nodes::Nothing)?;
             Ok((after, true))
         }
-        Nodes::Fork(shared) => {
+        Nodes::Fork(_, shared) => {
             let node = &**shared;
             let key = &*pair.key;
             match key.cmp(&node.pair.key) {

@@ -18,7 +18,7 @@ pub(crate) fn value_at<'a, K: Ord, V, Q: Query<K>>(nodes: &'a Nodes<K, V>, key: 
 {
     match nodes {
         Nodes::Nothing => None,
-        Nodes::Fork(shared) => {
+        Nodes::Fork(_, shared) => {
             let node = &**shared;
             match key.compare(&node.pair.key) {
                 Ordering::Less => value_at(&node.lower, key),
@@ -40,7 +40,7 @@ pub(crate) fn pair_from<'a, K: Ord, V, Q: Query<K>>(
 {
     match nodes {
         Nodes::Nothing => None,
-        Nodes::Fork(shared) => {
+        Nodes::Fork(_, shared) => {
             let node = &**shared;
             let fits = key.compare(&node.pair.key).is_le();
             if fits {
@@ -62,7 +62,7 @@ pub(crate) fn pair_after<'a, K: Ord, V, Q: Query<K>>(
 {
     match nodes {
         Nodes::Nothing => None,
-        Nodes::Fork(shared) => {
+        Nodes::Fork(_, shared) => {
             let node = &**shared;
             let fits = key.compare(&node.pair.key).is_lt();
             if fits {
@@ -78,7 +78,7 @@ pub(crate) fn first_pair<K, V>(nodes: &Nodes<K, V>) -> Option<&MapPair<K, V>>
 {
     match nodes {
         Nodes::Nothing => None,
-        Nodes::Fork(node) => first_pair(&node.lower).or(Some(&node.pair)),
+        Nodes::Fork(_, node) => first_pair(&node.lower).or(Some(&node.pair)),
     }
 }
 
@@ -88,6 +88,6 @@ pub(crate) fn last_pair<K, V>(nodes: &Nodes<K, V>) -> Option<&MapPair<K, V>>
 {
     match nodes {
         Nodes::Nothing => None,
-        Nodes::Fork(node) => last_pair(&node.higher).or(Some(&node.pair)),
+        Nodes::Fork(_, node) => last_pair(&node.higher).or(Some(&node.pair)),
     }
 }

@@ -26,7 +26,7 @@ pub(crate) fn without<K: Ord + Drop, V: Drop, Q: Query<K>>(
 {
     match nodes {
         Nodes::Nothing => Ok(None),
-        Nodes::Fork(shared) => {
+        Nodes::Fork(_, shared) => {
             let node = &**shared;
             match key.compare(&node.pair.key) {
                 Ordering::Less => {
@@ -109,11 +109,11 @@ fn without_first<K: Drop, V: Drop>(
 {
     match nodes {
         Nodes::Nothing => Ok(Nodes::Nothing),
-        Nodes::Fork(shared) => {
+        Nodes::Fork(_, shared) => {
             let node = &**shared;
             match &node.lower {
                 Nodes::Nothing => node.higher.copy(),
-                Nodes::Fork(_) => {
+                Nodes::Fork(_, _) => {
                     let lower = without_first(alloc, &node.lower)?;
                     with_lower(alloc, node, lower)
                 }

@@ -6,7 +6,7 @@ ghost use Rattle.std.specs.Map.{keys_of, remove_entry};
 ghost use Rattle.shared_map.specs.Nodes.{count_with, pairs, pairs_beside, pairs_of, pairs_or};
 
 use crate::in_place::in_balance;
-use crate::nodes::{Node, Nodes};
+use crate::nodes::{Node, Nodes, measured};
 use crate::queries::Query;
 use crate::taking::{joined, without};
 use std::alloc::{AllocError, Global};
@@ -35,7 +35,7 @@ pub(crate) fn take_from<K: Ord + Drop, V: Drop, Q: Query<K>>(
     }
     match nodes {
         Nodes::Nothing => (Nodes::Nothing, Ok(false)),
-        Nodes::Fork(shared) => take_from_node(alloc, levels - 1, shared, key),
+        Nodes::Fork(_, shared) => take_from_node(alloc, levels - 1, shared, key),
     }
 }
 
@@ -54,7 +54,7 @@ fn take_from_node<K: Ord + Drop, V: Drop, Q: Query<K>>(
     ensures err { OnErr result.1 (pairs result.0 ≡ pairs_of shared.value) }
 {
     let Some(node) = Arc::get_mut(&mut shared) else {
-        return take_anew(alloc, Nodes::Fork(shared), key);
+        return take_anew(alloc, measured(shared), key);
     };
     match take_below(alloc, levels, node, key) {
         Some(answer) => (in_balance(alloc, shared), answer),
@@ -110,7 +110,7 @@ fn without_own<K: Drop, V: Drop>(
 {
     match both_sides(alloc, &shared) {
         Ok(nodes) => (nodes, Ok(true)),
-        Err(error) => (Nodes::Fork(shared), Err(error)),
+        Err(error) => (measured(shared), Err(error)),
     }
 }
 

@@ -19,7 +19,7 @@ pub(crate) fn push_values<'a, K, V>(
 {
     match nodes {
         Nodes::Nothing => Ok(()),
-        Nodes::Fork(node) => {
+        Nodes::Fork(_, node) => {
             push_values(list, &node.lower)?;
             list.push(&node.pair.value)?;
             push_values(list, &node.higher)
@@ -40,7 +40,7 @@ pub(crate) fn push_values_after<'a, K: Ord, V, Q: Query<K>>(
 {
     match nodes {
         Nodes::Nothing => Ok(()),
-        Nodes::Fork(shared) => {
+        Nodes::Fork(_, shared) => {
             let node = &**shared;
             let fits = key.compare(&node.pair.key).is_lt();
             if fits {

@@ -43,7 +43,8 @@ pub struct Config {
     pub ldif: Option<ConfigText>,
     /// How many touches of entries its session log keeps.
     pub log_limit: u64,
-    /// How many messages a search may have pending.
+    /// How many messages of later writes a search may have pending, and how many entries of its
+    /// content may change before its refresh is decided to the end.
     pub queue_limit: u64,
     /// The name that may write, which has a password, or none where everyone may.
     pub bind_name: Option<Dn>,

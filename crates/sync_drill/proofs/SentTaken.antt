@@ -123,6 +123,7 @@ takes_as copy session m taken runs one is same =
     id : taken.id ≡ 1
     id = ap (λ (w : MessageValue). w.0) same
 
+-- and the copy is then what the model makes of it
 pub takes_sent : (copy : Copy) (session : SyncSession) (m : SyncMessage) (taken : Message) → copy.session ≡ Some session → session.id ≡ 1 → IsOfSearch m
     → message_value taken ≡ wire.sent 1 m → (taken_of copy taken).0 ≡ (taken_within 1 copy m).0
 takes_sent copy session m taken runs one is same = ap (λ (o : Copy × Taken). o.0) (takes_as copy session m taken runs one is same)

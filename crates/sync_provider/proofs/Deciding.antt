@@ -71,6 +71,7 @@ touched_uuids : (d : DirectoryState) (search : Search) (us : List ℕ) → items
 touched_uuids d search [] = refl
 touched_uuids d search (u ∷ us) = ap (λ others. u ∷ others) (touched_uuids d search us)
 
+-- and so they are in order
 pub touched_sorted : (d : DirectoryState) (search : Search) (us : List ℕ) → IsStrictlySortedBy nat_cmp us → IsStrictlySortedBy nat_cmp (items.identities (map (touched_item_at d search) us))
 touched_sorted d search us sorted = subst (IsStrictlySortedBy nat_cmp) (sym (touched_uuids d search us)) sorted
 

@@ -131,6 +131,8 @@ queued_after limit messages s was now due full is off none some fits then dues =
     by true = ap (λ (p : SliceProgress). record s { progress = given_up p; over = true }) (sym is)
     by false = λ i. record s { progress = record (sym is i) { due = s.progress.due ++ messages }; over = sym off i }
 
+-- what is kept after a write that changed something while pieces are left: more of what changed, or
+-- nothing where that is too much
 pub kept_after : (limit : ℕ) (messages : List SyncMessage) (s : SearchState) (was now : SliceProgress) (changed : List ℕ) (due : List SyncMessage) (full : Bool) → s.progress ≡ record was { due = s.progress.due } → s.over ≡ false → is_nil was.left ≡ false
     → changed ≡ changed_with was.changed messages → full ≡ grows_too_much (limits_of limit) (length was.changed) (length changed) → now ≡ cond full (given_up was) (record was { changed = changed }) → due ≡ cond full [] s.progress.due
     → record s { progress = record now { due = due }; over = full } ≡ pushed_group limit messages s
@@ -160,6 +162,7 @@ crowded_is limit count = ap (λ b. nat_lt limit count || b) (by (cases_lt 104857
 pub none_staged : (staged : List StagedGroup) → staged ≡ [] → messages_in staged ≡ []
 none_staged staged none = ap messages_in none
 
+-- where none is staged there is room, whatever is left to decide
 pub room_none : (over : Bool) (p : SliceProgress) (spare : ℕ) (staged : List StagedGroup) → staged ≡ [] → (over ≡ true → p.left ≡ []) → AreStaged over p spare 0 staged
 room_none over p spare staged none ended = subst (AreStaged over p spare 0) (sym none) (record { ended = ended; counted = refl; room = λ off settled. omega arith; grown = λ some. tt })
 
@@ -196,6 +199,7 @@ grown_last : (changed : List ℕ) (staged : List StagedGroup) (group : StagedGro
 grown_last changed [] group are is = (is, tt)
 grown_last changed (first ∷ staged) group are is = (are.0, grown_last (changed_with changed first.messages.items) staged group are.1 is)
 
+-- a search with one group more is staged as it should be
 pub group_added : (over : Bool) (p : SliceProgress) (spare after count total : ℕ) (staged : List StagedGroup) (group : StagedGroup) → AreStaged over p spare count staged
     → total ≡ count + length group.messages.items → (over ≡ false → p.left ≡ [] → total ≤ after) → group.changed ≡ grown_by p.left (last_changed p.changed (messages_in staged)) group.messages.items
     → AreStaged over p after total (staged ++ group ∷ [])

@@ -153,6 +153,7 @@ module _ (r : SlicedRefresh) (now : ℕ) where
   ready_stays zero s ready = refl
   ready_stays (suc most) s ready = ap (λ b. cond b s (ready_from most r now (with_next r now s))) ready
 
+  -- so it stays as it is when it is made ready
   pub made_there : (s : SliceProgress) → is_ready s ≡ true → made_ready r now s ≡ s
   made_there s ready = ready_stays (length s.left) s ready
 
@@ -242,6 +243,7 @@ module _ (r : SlicedRefresh) (now : ℕ) where
       by go false there =
           ap (λ b. is_nil (cond b s (ready_from most r now (with_next r now s))).rest) (λ i. waits i || not (there i)) ∙ there
 
+  -- where identities are left there is a message once it is ready
   pub made_some : 0 < r.size → (s : SliceProgress) → is_nil s.left ≡ false → is_nil (made_ready r now s).rest ≡ false
   made_some some s waits = some_there some (length s.left) s (omega arith) waits
 

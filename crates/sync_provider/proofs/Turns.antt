@@ -35,6 +35,7 @@ end_turns true true cookie id = refl
 end_turns true false cookie id = refl
 end_turns false deletes cookie id = refl
 
+-- the end of a refresh closes its search exactly where that does not go on
 pub end_closes : (closes : Bool) (message : SyncMessage) (id : ℕ) → IsEndOf (not closes) message → turn_of_message id message ≡ ended_or_on closes id message
 end_closes closes message id is =
     ap (turn_of_message id) is.is
@@ -71,6 +72,7 @@ pub first_ends : (id : ℕ) (ms : List SyncMessage) (m : SyncMessage) (closes : 
 first_ends id ms m closes value is turn made on =
     ap (Closes (pos SUCCESS)) made ∙ ap (λ b. ended_or_on b id m) (sym on) ∙ sym turn ∙ first_turn id ms m is
 
+-- a first message that closes nothing is handed out, and the search goes on
 pub first_goes : (id : ℕ) (ms : List SyncMessage) (m : SyncMessage) (closes : Bool) (value : MessageValue) → Some m ≡ slice_get ms 0 → turn_of_message id m ≡ ended_or_on closes id m → value ≡ sent id m → closes ≡ false
     → Hands value ≡ turn_of_pending id ms
 first_goes id ms m closes value is turn made off =
@@ -272,6 +274,7 @@ some_has_message id (m ∷ ms) some = message_there id m
 pub left_has_message : (d : DirectoryState) (s : SearchState) → s.over ≡ false → is_nil s.progress.left ≡ false → has_message (turn_of_pending s.id (pending d s)) ≡ true
 left_has_message d s off left = ap has_message (sym (readied_turn d s off left)) ∙ some_has_message s.id (readied d s).progress.rest (readied_some d s left)
 
+-- and of one of whose refresh a message is decided
 pub rest_has_message : (d : DirectoryState) (s : SearchState) → s.over ≡ false → is_nil s.progress.rest ≡ false → has_message (turn_of_pending s.id (pending d s)) ≡ true
 rest_has_message d s off some = ap has_message (rest_turn d s off some) ∙ some_has_message s.id s.progress.rest some
 

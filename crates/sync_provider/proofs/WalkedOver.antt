@@ -28,6 +28,7 @@ above_last (suc count) after us up = by (λ u. above_last count (Some u) us up) 
         let next : above (Some u) us ≡ rest = above_next after us u rest up is in
         ap (λ others. above (last_or (Some u) (take count others)) us) (sym next) ∙ later u ∙ ap (drop count) next
 
+-- those above the last of a piece are those that were left but for the piece
 pub entries_left : (count : ℕ) (after last : Option ℕ) (es : List Entry) (piece : List ℕ) → ascends es ≡ true → piece ≡ take count (above after (identities es)) → last ≡ last_or after piece
     → above last (identities es) ≡ drop count (above after (identities es))
 entries_left count after last es piece up is found =
@@ -40,6 +41,7 @@ drop_taken zero us = refl
 drop_taken (suc count) [] = refl
 drop_taken (suc count) (u ∷ us) = drop_taken count us
 
+-- as many places further on are those that were left but for the piece
 pub touched_left : (count next : ℕ) (us piece : List ℕ) → piece ≡ take count (drop next us) → drop (next + length piece) us ≡ drop count (drop next us)
 touched_left count next us piece is =
     sym (drop-drop (length piece) next us) ∙ ap (λ us'. drop (length us') (drop next us)) is ∙ drop_taken count (drop next us)
@@ -58,6 +60,7 @@ never_none : (u : ℕ) (us : List ℕ) → None ≡ slice_get (u ∷ us) (length
 never_none u [] none = let never : ⊥ = cc in never
 never_none u (v ∷ us) none = never_none v us none
 
+-- a piece without a last one has none, and the place stays
 pub last_none : (before : Option ℕ) (us : List ℕ) → None ≡ slice_get us (length us - 1) → before ≡ last_or before us
 last_none before [] none = refl
 last_none before (u ∷ us) none = let one : length (u ∷ us) - 1 ≡ length us = omega arith in absurd (never_none u us (none ∙ ap (slice_get (u ∷ us)) one))
@@ -69,6 +72,7 @@ last_at before (x ∷ []) u (suc last) long there = absurd (omega (arith, long))
 last_at before (x ∷ y ∷ us) u zero long there = absurd (omega (arith, long))
 last_at before (x ∷ y ∷ us) u (suc last) long there = last_at (Some x) (y ∷ us) u last (omega (arith, long)) there
 
+-- and else the last one is the place
 pub last_some : (before : Option ℕ) (us : List ℕ) (u : ℕ) → Some u ≡ slice_get us (length us - 1) → Some u ≡ last_or before us
 last_some before [] u there = absurd (cc)
 last_some before (x ∷ us) u there = last_at before (x ∷ us) u (length (x ∷ us) - 1) (omega arith) there
@@ -111,6 +115,7 @@ piece_first count next us = let same : next + count - next ≡ count = omega ari
 pub piece_sorted : (count next : ℕ) (us : List ℕ) → IsStrictlySortedBy nat_cmp us → IsStrictlySortedBy nat_cmp (take count (drop next us))
 piece_sorted count next us sorted = sorted_take count (drop next us) (sorted_drop next us sorted)
 
+-- none are in order
 pub none_sorted : IsStrictlySortedBy nat_cmp []
 unfolding IsStrictlySortedBy
 none_sorted = tt

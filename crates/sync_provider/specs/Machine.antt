@@ -106,7 +106,8 @@ dropped p number = record p { searches = closed p.searches number }
 abbrev pub log_limited : ProviderState → ℕ → ProviderState
 log_limited p limit = record p { directory = with_log_limit p.directory limit }
 
--- from the next write on a search may have n messages of later writes pending
+-- from the next write on a search may have n messages of later writes pending, or while pieces of
+-- its refresh are left n identities that changed
 abbrev pub queue_limited : ProviderState → ℕ → ProviderState
 queue_limited p limit = record p { queue_limit = limit }
 

@@ -1,5 +1,5 @@
--- The queue of a search that goes on after its refresh: the messages of later writes that are not
--- handed out yet (RFC 4533, section 3.4).
+-- What a search keeps of later writes: the messages that are not handed out yet, or while pieces of
+-- its refresh are left what changed in its content (RFC 4533, section 3.4).
 use Rattle.std.specs.Prelude.{ℕ, ◌+◌, ◌*◌, Bool, true, false, cond, not, ◌&&◌, ◌||◌, nat_lt, List, [], ◌∷◌, ◌++◌, length, sum_by}
 use Rattle.schema_rules.specs.Attributes.{weight_of}
 use Rattle.entry_tree.specs.declared.op.Write.{Write}

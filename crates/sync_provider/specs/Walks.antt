@@ -8,6 +8,7 @@ use Rattle.entry_tree.specs.Touched.{identities}
 use Rattle.sync_provider.specs.declared.walk.WalkPlace.{WalkPlace}
 use Rattle.sync_provider.specs.declared.walk.WalkPlace.TheVariants.{End, Entries, Touched}
 
+-- those that are left from this place on
 abbrev pub left_at : WalkPlace → List ℕ
 left_at End = []
 left_at (Entries entries after) = above after (identities entries)

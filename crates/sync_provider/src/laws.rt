@@ -38,23 +38,26 @@ pub fn numbers_show_what_was_touched()
     ensures { NumbersShowWhatWasTouched }
 {}
 
-/// After every list of calls, what is pending of each open search is an end of its refresh and then
-/// an end of what the later writes send, all of that where something of the refresh is left; unless
-/// a write was too much for the search.
+/// After every list of calls, what is kept of each open search is what is left of its refresh and
+/// then of what the later writes send, all of that where something of the refresh is left; and
+/// while pieces are left, what changed in its content since its acceptance; unless a write was too
+/// much for the search.
 pub fn searches_keep_their_place()
     ensures { SearchesKeepTheirPlace }
 {}
 
 /// Over every list of calls, what a search handed out, followed by what was pending when it ended,
-/// was dropped or is looked at, is its Stream up to the writes at that moment; or, where a write
-/// was too much for it, a prefix of that and then the end with the code busy.
+/// was dropped or is looked at, is its Stream up to the writes at that moment, by the numbers of
+/// writes at which its pieces were decided; or, where a write was too much for it, a prefix of that
+/// and then the end with the code busy.
 pub fn searches_deliver_their_streams()
     ensures { SearchesDeliverTheirStreams }
 {}
 
-/// Over every list of calls, a search ends with the code busy exactly where a write sends it
-/// something, and the messages of later writes that are not handed out are then more than the queue
-/// limit, or heavier than 16 MiB.
+/// Over every list of calls, a search ends with the code busy exactly where a write adds to what it
+/// is to keep, and that is then more than the queue limit, or heavier than 16 MiB: the messages of
+/// later writes that are not handed out, or while pieces of its refresh are left the identities
+/// that changed in its content.
 pub fn queues_overflow_exactly()
     ensures { QueuesOverflowExactly }
 {}

@@ -8,16 +8,18 @@
 //! Each search begins with a refresh, whose end carries the cookie of the content. Without a cookie
 //! every entry that its specification selects is sent whole. With a cookie of the directory only
 //! what was touched since then is sent. The rest is a delete phase, where the session log reports
-//! what was touched, and else a present phase. It goes through the identities piece by piece: each
-//! piece is decided when its first message is asked for, and writes may come between. What changed
-//! in the content meanwhile is sent once more after the last piece, and the cookie is that of the
-//! content then.
+//! what was touched, and else a present phase.
+//!
+//! A refresh goes through the identities in pieces of 256. The first is decided when the search is
+//! accepted, and each later one when a message of it is asked for; writes may come between. What
+//! changed in the content meanwhile is sent once more after the last piece, and the cookie is that
+//! of the content then.
 //!
 //! In the mode refreshOnly the search is over then. In the mode refreshAndPersist it goes on: each
 //! accepted write puts, in the same call, one message for each identity that it changes in the
 //! content into the search's queue, all of them or none. A search whose queue would hold too many
-//! messages, or too heavy ones, ends with the code busy, and so does one in whose content too many
-//! identities change while its refresh goes on.
+//! messages, or too heavy ones, ends with the code busy, and so does one, in either mode, in whose
+//! content too many identities change while pieces of its refresh are left.
 //!
 //! A `SyncDirectory` is all this. A `Provider` keeps a journal beside it: the writes that were
 //! accepted, the searches that were opened, and their ends. It is a `Port`, by which a directory is

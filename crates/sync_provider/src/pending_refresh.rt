@@ -93,8 +93,8 @@ impl PendingRefresh {
         }
     }
 
-    /// The same refresh once more. It shares all that grows with the content. It is `NoMemory`
-    /// where memory runs out.
+    /// The same refresh once more. It shares all but the numbers of writes at its pieces and the
+    /// names that wait. It is `NoMemory` where memory runs out.
     pub(crate) fn copy(&self) -> Result<PendingRefresh, NoMemory>
         ensures { IfOk result (λ copy. copy ≡ self.now) }
     {

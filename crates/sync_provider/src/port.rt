@@ -66,7 +66,8 @@ pub trait Port: Drop {
         ensures replies { IsReplied (state self.old)
             (λ p. AcceptReplies p ask result (state self.new)) };
 
-    /// The next message of the search with this number.
+    /// The next message of the search with this number, for which as many pieces of its refresh are
+    /// decided as it needs.
     fn hand_out(&mut self, search: u64) -> Handed
         ensures home { home self.new ≡ home self.old }
         ensures replies { IsReplied (state self.old)

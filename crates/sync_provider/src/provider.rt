@@ -142,7 +142,8 @@ impl Provider {
     /// protocolError for a control's value outside its grammar, noSuchObject for a base outside the
     /// suffix, adminLimitExceeded where the 64 numbers are all in use, and e-syncRefreshRequired
     /// for a cookie that is neither blank nor servable, from a client that does not ask to reload
-    /// then. There is room in the journal for the end of the search from then on.
+    /// then. The first piece of its refresh is decided, and there is room in the journal for the
+    /// end of the search from then on.
     pub fn accept(&mut self, ask: SyncSearch) -> Accepted
         ensures leaves { AcceptLeaves self.old.state ask result self.new.state }
         ensures journal { AcceptReplies (port_state self.old) ask result (port_state self.new) }
@@ -173,9 +174,9 @@ impl Provider {
         }
     }
 
-    /// The next message of the search with this number (RFC 4533, sections 3.3 and 3.4). Where
-    /// memory runs out the same message is still pending; where there is no message none is asked
-    /// for.
+    /// The next message of the search with this number (RFC 4533, sections 3.3 and 3.4). The
+    /// pieces of the refresh that it needs are decided now. Where memory runs out the same message
+    /// is still pending, and nothing is decided; where there is no message none is asked for.
     pub fn hand_out(&mut self, number: u64) -> Handed
         ensures leaves { HandOutLeaves self.old.state number result self.new.state }
         ensures journal { HandOutReplies (port_state self.old) number result (port_state self.new) }
@@ -228,8 +229,8 @@ impl Provider {
         self.directory.set_log_limit(limit);
     }
 
-    /// From the next write on, each search may have n messages of later writes pending. What
-    /// is pending stays.
+    /// From the next write on, each search may have n messages of later writes pending, or, while
+    /// pieces of its refresh are left, n identities that changed. What is there stays.
     pub fn set_queue_limit(&mut self, limit: u64)
         ensures { self.new
             ≡ record self.old { state = machine.queue_limited self.old.state limit } }

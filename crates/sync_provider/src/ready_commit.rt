@@ -61,8 +61,8 @@ pub(crate) fn make_each_ready(
     Ok(each)
 }
 
-/// Puts commits that are ready in place, one after another, and what they report into the queues,
-/// each of which may hold n messages. It takes no memory, and can't fail.
+/// Puts commits that are ready in place, one after another, and what they report into the searches,
+/// each of which may keep n messages or identities. It takes no memory, and can't fail.
 pub(crate) fn put_each_in_place(
     directory: &mut Directory,
     searches: &mut SearchTable,

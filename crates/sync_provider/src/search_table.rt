@@ -168,7 +168,7 @@ impl SearchTable {
         stage_places(&mut self.places, touched, &cookie)
     }
 
-    /// Puts what was made into the queues, each of which may hold n messages.
+    /// Puts what was made into the searches, each of which may keep n messages or identities.
     #[tactic(auto, using(crate::proofs::Tables::each_seen_pushed, crate::proofs::Tables::pushed_long))]
     pub(crate) fn push_each(&mut self, limit: u64)
         ensures { searches_of self.new ≡ each_pushed limit self.old }
@@ -220,7 +220,7 @@ fn stage_places(
     Ok(())
 }
 
-/// Puts what was made into the queue of the search of each place.
+/// Puts what was made into the search of each place.
 #[tactic(auto, using(crate::proofs::Tables::none_made, crate::proofs::Tables::all_made))]
 fn push_places(places: &mut Vec<Option<OpenSearch>>, limit: u64)
     ensures { map shown places.new.items ≡ map (pushed_at limit) places.old.items }
@@ -268,7 +268,7 @@ fn stage_at(
     search.stage(touched, *cookie)
 }
 
-/// Puts what was made into the queue of the search of a place.
+/// Puts what was made into the search of a place.
 fn push_at(place: &mut Option<OpenSearch>, limit: u64)
     ensures { shown place.new ≡ pushed_at limit place.old }
 {

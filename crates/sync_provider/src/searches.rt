@@ -59,7 +59,8 @@ impl SyncDirectory {
     /// protocolError for a control's value outside its grammar, noSuchObject for a base outside the
     /// suffix, adminLimitExceeded where the 64 numbers are all in use, and e-syncRefreshRequired
     /// for a cookie that is neither blank nor servable, from a client that does not ask to reload
-    /// then. A search in the mode refreshAndPersist goes on after its refresh.
+    /// then. The first piece of its refresh is decided. A search in the mode refreshAndPersist goes
+    /// on after its refresh.
     ///
     /// A cookie is servable where it is of the directory's history and its CSN is not above the
     /// last one. The search then begins with the content after the writes that it names.

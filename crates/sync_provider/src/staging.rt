@@ -1,10 +1,11 @@
 //! How a write is reported to all open searches, or to none (RFC 4533, section 3.4).
 //!
 //! First all is made that takes memory: the messages of the write that was previewed, for each
-//! search, the room for them in its queue, what the directory keeps after the write, and the room
-//! for it there. That may fail, and nothing is seen of it. Then the write is put in place and the
-//! messages are moved into the queues, which takes no memory and can't fail. What has to stand
-//! before a write does, as a record of it on a disk, can be made between the two.
+//! search, the room for them in its queue, or, while pieces of its refresh are left, what changed
+//! in its content with them; what the directory keeps after the write, and the room for it there.
+//! That may fail, and nothing is seen of it. Then the write is put in place and what was made is
+//! moved into the searches, which takes no memory and can't fail. What has to stand before a write
+//! does, as a record of it on a disk, can be made between the two.
 
 ghost use Rattle.std.specs.Prelude.{◌≡◌, ◌<◌, ◌≤◌, length, IfOk, OnOk};
 ghost use Rattle.csn_cookie.specs.Cookie.{cookie_text};
@@ -45,8 +46,8 @@ pub(crate) fn make_ready(
     Ok(ready)
 }
 
-/// Puts a write that is ready in place, and what it reports into the queues, each of which may hold
-/// n messages. It takes no memory, and can't fail.
+/// Puts a write that is ready in place, and what it reports into the searches, each of which may
+/// keep n messages or identities. It takes no memory, and can't fail.
 pub(crate) fn put_in_place(
     directory: &mut Directory,
     searches: &mut SearchTable,

@@ -20,7 +20,8 @@ use ldap_ber::discard;
 use std::alloc::Global;
 use std::marker::Model;
 
-/// How many messages of later writes a search of a new provider may have pending.
+/// How many messages of later writes a search of a new provider may have pending, or, while pieces
+/// of its refresh are left, how many identities that changed.
 const FIRST_QUEUE_LIMIT: u64 = 4_096;
 
 /// A directory with the searches that are open on it, by their numbers.
@@ -30,7 +31,8 @@ pub struct SyncDirectory {
     pub(crate) kind: Kind,
     pub(crate) directory: Directory,
     pub(crate) searches: SearchTable,
-    /// How many messages of later writes each search may have pending.
+    /// How many messages of later writes each search may have pending, or, while pieces of its
+    /// refresh are left, how many identities that changed.
     pub(crate) queue_limit: u64,
 }
 
@@ -82,9 +84,9 @@ impl SyncDirectory {
         self.kind
     }
 
-    /// The next message of the search with this number (RFC 4533, sections 3.3 and 3.4). Where
-    /// memory runs out the same message is still pending; where there is no message none is asked
-    /// for.
+    /// The next message of the search with this number (RFC 4533, sections 3.3 and 3.4). The
+    /// pieces of the refresh that it needs are decided now. Where memory runs out the same message
+    /// is still pending, and nothing is decided; where there is no message none is asked for.
     #[tactic(auto, using(crate::proofs::Turns::closed_after, crate::proofs::Turns::open_after, crate::proofs::Turns::found_has_message, crate::proofs::Held::turn_found, crate::proofs::Held::search_found, crate::proofs::Held::search_none))]
     pub fn hand_out(&mut self, number: u64) -> Handed
         ensures leaves { HandOutLeaves self.old number result self.new }
@@ -123,8 +125,8 @@ impl SyncDirectory {
         self.directory.set_log_limit(limit);
     }
 
-    /// From the next write on, each search may have n messages of later writes pending. What
-    /// is pending stays.
+    /// From the next write on, each search may have n messages of later writes pending, or, while
+    /// pieces of its refresh are left, n identities that changed. What is there stays.
     pub fn set_queue_limit(&mut self, limit: u64)
         ensures { self.new ≡ machine.queue_limited self.old limit }
     {

@@ -1,6 +1,6 @@
 -- Keys of text: the characters of a value without the differences that matching ignores (RFC 4518).
 -- A space is U+0020 alone, to which NFKC also brings the other spaces.
-use Rattle.std.specs.Prelude.{ℕ, Bool, true, false, ◌&&◌, ◌==◌, if◌then◌else◌, List, [], ◌∷◌, Option, Some, None, option_and_then, chars, encode_utf8_all}
+use Rattle.std.specs.Prelude.{ℕ, Bool, true, false, not, ◌&&◌, ◌==◌, nat_lt, if◌then◌else◌, List, [], ◌∷◌, Option, Some, None, option_and_then, chars, encode_utf8_all}
 use Rattle.std.specs.Char.{to_ascii_lowercase}
 use Rattle.std.specs.Str.{is_utf8}
 use Rattle.caseless.specs.Caseless.{default_case_fold}
@@ -49,6 +49,10 @@ squeezed first last cs =
     let prefix = if first then without_leading_spaces cs else cs in
     let whole = if last then without_trailing_spaces prefix else prefix in
     single_spaced whole
+
+-- a character of ASCII that is neither a space nor a capital letter, so that each key keeps it
+abbrev pub is_settled : ℕ → Bool
+is_settled c = nat_lt c 128 && (not (is_space c) && to_ascii_lowercase c == c)
 
 -- the characters, with a space before them where one is due
 abbrev pub spaced : Bool → List ℕ → List ℕ

@@ -13,5 +13,5 @@ mod time;
 pub use boolean::boolean_key;
 pub use fault::KeyFault;
 pub use integer::integer_key;
-pub use text::{exact_key, ignore_case_key, is_plain, piece_key};
+pub use text::{exact_key, ignore_case_key, is_own_key, is_plain, piece_key};
 pub use time::time_key;

@@ -1,7 +1,8 @@
 //! Keys of text (RFC 4518, section 2), of whole values and of the pieces of a substring filter.
 ghost use Rattle.std.specs.Prelude.{◌≡◌, true, [], ◌++◌, map, Some, is_some, IfOk, IfErr, OnOk, IsErrOf, IsAscii, IsTrue, chars, string_bytes, encode_utf8_all};
+ghost use Rattle.std.specs.List.{list_all};
 ghost use Rattle.text_keys.specs.Fault.{IsFaultOf};
-ghost use Rattle.text_keys.specs.Text.{prepared, lowered, squeezed, spaced, whole_key, ignore_case_key, exact_key, piece_key};
+ghost use Rattle.text_keys.specs.Text.{prepared, lowered, squeezed, spaced, whole_key, ignore_case_key, exact_key, piece_key, is_settled};
 
 use crate::fault::KeyFault;
 use caseless::default_case_fold_str;
@@ -43,6 +44,34 @@ pub fn is_plain(value: &[u8]) -> bool
         return false;
     }
     value.is_ascii()
+}
+
+/// Whether the value is seen to be its own key, whether case counts or not, without making one: it
+/// is in ASCII, is not empty, and has neither spaces nor capital letters.
+pub fn is_own_key(value: &[u8]) -> bool
+    ensures ignoring { IsTrue result → ignore_case_key value.now ≡ Some value.now }
+    ensures exact { IsTrue result → exact_key value.now ≡ Some value.now }
+    ensures ascii { IsTrue result → IsAscii value.now }
+{
+    if value.is_empty() {
+        return false;
+    }
+    are_settled(value)
+}
+
+/// Whether each byte is settled.
+fn are_settled(bytes: &[u8]) -> bool
+    ensures { result ≡ list_all is_settled bytes.now }
+{
+    bytes.iter().all(|byte| is_settled(*byte))
+}
+
+/// Whether the byte is a character that each key keeps where it stands: one of ASCII that is
+/// neither a space nor a capital letter.
+fn is_settled(byte: u8) -> bool
+    ensures { result ≡ is_settled byte }
+{
+    byte < 128 && byte != b' ' && byte.to_ascii_lowercase() == byte
 }
 
 /// A whole value is its own first and last piece, and its key is not empty.

@@ -7,7 +7,7 @@ use Rattle.dn_names.proofs.dn.read_rdns.Goals as goal
 
 pub returns-in_err-rdn-clause-fault : goal.returns-in_err-rdn-clause-fault
 returns-in_err-rdn-clause-fault c =
-    let p = err_from_is_err_and c.from_residual.result c.from_residual.ensures.1 in
+    let p = err_from_is_err_and c.from_residual-in_err-rdn.result c.from_residual-in_err-rdn.ensures.1 in
     let first = rw (c.is_some.ensures, c.cut.ensures.found, c.cut.ensures.prefix, c.width_of.ensures) at c.in_err-rdn.ensures.fault in
     rw (p.1, p.2) (rdn_refused c.args.bytes _ c.rdns.rdns.items c.rdns.rest.now c.rdns.invariant.read _ first)
 

@@ -15,4 +15,4 @@ pub returns-in-None : goal.returns-in-None
 returns-in-None c =
     let names = c.args.names.now in
     let path = c.args.path.now in
-    rw (ids_absent names path (sym c.in-None.ensures)) c.new.ensures.items
+    rw (ids_absent names path (sym c.in-None.ensures)) c.with_capacity.ensures.items

@@ -1,7 +1,8 @@
--- The path key goes, or its identities are written.
-use Rattle.std.proofs.Common.{◌≡◌, ◌∙◌, ℕ, Vec, Global, nat_eq, length, ap, arith}
+-- The path key goes, or its identities are written, or what the other index has there.
+use Rattle.std.proofs.Common.{◌≡◌, ◌<◌, ◌∙◌, ℕ, Vec, Global, nat_eq, length, ap, subst, sym, arith}
 use Rattle.std.specs.Vec.{vec_len}
 use Rattle.std.proofs.lemmas.Result.{on_ok_weaker}
+use Rattle.entry_tree.specs.NameIndex.{Writes}
 use Rattle.entry_tree.proofs.NameKeys.{writes_some, some_written, writes_none, some_without, some_items, no_items}
 use Rattle.entry_tree.proofs.names.write.Goals as goal
 
@@ -20,15 +21,25 @@ returns-then-is_empty-clause-some c =
     (λ is. some_without c.args.names.now c.remove.new.self c.args.path.now c.args.uuids.items (no_items c.args.uuids.items c.is_empty.result (c.is_empty.ensures ∙ ap (λ n. nat_eq n 0) (long c.args.uuids)) c.if-is_empty.true) c.len.ensures.ordered is c.requires)
     c.remove.ensures.ok
 
-pub returns-clause-written : goal.returns-clause-written
-returns-clause-written c =
-    on_ok_weaker c.insert.result
-    (λ is. writes_some c.args.names.now c.insert.new.self c.args.path.now c.in_ok-key.key c.args.uuids c.in_ok-key.ensures is)
-    c.insert.ensures.ok
+pub returns-in-Some-clause-written : goal.returns-in-Some-clause-written
+returns-in-Some-clause-written c =
+    let pair = c.in-Some.pair.now in
+    let found = rw c.in-Some.is at c.same_pair.ensures in
+    let names = c.insert_shared.new.self in
+    on_ok_weaker c.insert_shared.result
+    (λ is. subst (Writes c.args.names.now names c.args.path.now) (found.1 ∙ c.deref.ensures.value) (writes_some c.args.names.now names c.args.path.now pair.key.value pair.value.value found.0 is))
+    c.insert_shared.ensures.ok
 
-pub returns-clause-some : goal.returns-clause-some
-returns-clause-some c =
-    on_ok_weaker c.insert.result
-    (λ is. some_written c.args.names.now c.insert.new.self c.args.path.now c.in_ok-key.key c.args.uuids c.in_ok-key.ensures is
-    (some_items c.args.uuids.items c.is_empty.result (c.is_empty.ensures ∙ ap (λ n. nat_eq n 0) (long c.args.uuids)) c.if-is_empty.false) c.requires)
-    c.insert.ensures.ok
+pub returns-in-Some-clause-some : goal.returns-in-Some-clause-some
+returns-in-Some-clause-some c =
+    let pair = c.in-Some.pair.now in
+    let found = rw c.in-Some.is at c.same_pair.ensures in
+    let names = c.insert_shared.new.self in
+    let some = some_items c.args.uuids.items c.is_empty.result (c.is_empty.ensures ∙ ap (λ n. nat_eq n 0) (long c.args.uuids)) c.if-is_empty.false in
+    on_ok_weaker c.insert_shared.result
+    (λ is. some_written c.args.names.now names c.args.path.now pair.key.value pair.value.value found.0 is (subst (λ ids. 0 < length ids) (sym (found.1 ∙ c.deref.ensures.value)) some) c.requires)
+    c.insert_shared.ensures.ok
+
+pub write_anew-requires-clause-some : goal.write_anew-requires-clause-some
+write_anew-requires-clause-some c =
+    some_items c.args.uuids.items c.is_empty.result (c.is_empty.ensures ∙ ap (λ n. nat_eq n 0) (long c.args.uuids)) c.if-is_empty.false

@@ -6,7 +6,7 @@ use Rattle.shared_map.proofs.taking.+without_first.Goals as goal
 pub returns-in_ok-lower-in-Fork-lower : goal.returns-in_ok-lower-in-Fork-lower
 returns-in_ok-lower-in-Fork-lower g t c =
     let node = c.deref-node.result.now in
-    let first = c.in-Fork-lower.field-0.value in
+    let first = c.in-Fork-lower.field-1.value in
     let rest = pair_of node.pair ∷ pairs node.higher in
     let opened = ap pairs c.in-Fork.is ∙ sym (ap pairs_of c.deref-node.ensures) in
     IfOk-same c.with_lower.result pairs _ _ c.with_lower.ensures

@@ -4,14 +4,14 @@ use Rattle.std.specs.Map.{keys_of}
 use Rattle.shared_map.specs.Nodes.{count_with, pairs}
 use Rattle.shared_map.proofs.Changes.{ascends-insert_entry}
 use Rattle.shared_map.proofs.Counts.{count-small}
-use Rattle.shared_map.proofs.ordered.SharedMap.insert.Goals as goal
+use Rattle.shared_map.proofs.ordered.SharedMap.insert_pair.Goals as goal
 
 pub invariant_of-self-2 : goal.invariant_of-self-2
 invariant_of-self-2 g c =
     let cmp = g.K.Ord.cmp in
     let es = pairs c.self.inside.root in
-    let key = c.in_ok-new.field-0.value in
-    let value = c.in_ok-new-2.field-0.value in
+    let key = c.args.pair.key.value in
+    let value = c.args.pair.value.value in
     let is_new = c.in_ok-is_new.is_new in
     let put = rw (c.replace-root.ensures.value, c.in_ok-is_new.was) at c.put_into-root.ensures in (
       subst (λ es. IsStrictlySortedBy cmp (keys_of es)) (sym (put.ok c.self.invariant.0))

@@ -9,7 +9,7 @@ use Rattle.entry_tree.proofs.ByIdentity.{keyed_as}
 use Rattle.entry_tree.proofs.Counting.{counted_made, strays_after_few, strays_few, strays_made}
 use Rattle.entry_tree.proofs.NameChanges.{index_made}
 use Rattle.entry_tree.proofs.Weighing.{directory_made, weighs_made}
-use Rattle.entry_tree.proofs.tree.Tree.changed_by.Goals as goal
+use Rattle.entry_tree.proofs.tree.Tree.changed_as.Goals as goal
 
 pub weight_with-weight-requires-clause-before : goal.weight_with-weight-requires-clause-before
 weight_with-weight-requires-clause-before c =
