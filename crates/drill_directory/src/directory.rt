@@ -8,7 +8,6 @@ ghost use Rattle.drill_directory.specs.Ports.{AreNew, IsPortOf};
 
 use dn_names::Dn;
 use drill_plan::whole_spec;
-use entry_tree::Spec;
 use ldap_ber::NoMemory;
 use shared_directory::{Desk, DirectoryPass, SharedDirectory};
 use std::alloc::{AllocError, Global};
@@ -44,12 +43,7 @@ fn suffix_name(alloc: Global) -> Result<Dn, NoMemory>
     ensures { IfOk result (λ name. name ≡ suffix) }
 {
     let spec = whole_spec(alloc)?;
-    let Spec {
-        base,
-        scope: _,
-        filter: _filter,
-    } = spec;
-    Ok(base)
+    spec.base.copy()
 }
 
 /// The desks of the passes of a new directory. It is `NoMemory` where memory runs out.

@@ -43,11 +43,21 @@ impl Scope {
 }
 
 /// Which entries are wanted: those in the scope for which the filter is True.
-#[derive(Drop)]
 pub struct Spec {
     pub base: Dn,
     pub scope: Scope,
     pub filter: Filter,
+}
+
+/// A call of its own, so that what drops a specification is one step, whatever its filter.
+impl Drop for Spec {
+    fn drop(self) {
+        let Spec {
+            base: _base,
+            scope: _,
+            filter: _filter,
+        } = self;
+    }
 }
 
 impl Spec {

@@ -7,7 +7,6 @@ use schema_rules::Attrs;
 use sync_messages::IdList;
 
 /// What a write does.
-#[derive(Drop)]
 pub enum Op {
     /// Adds an entry (RFC 4511, section 4.7).
     Add(Dn, Attrs),
@@ -23,6 +22,19 @@ pub enum Op {
     /// does not put: what a replica takes from its provider at one time (RFC 4533, section 3.3). No
     /// client asks for it.
     Commit(EntryList, IdList),
+}
+
+/// A call of its own, so that what drops an operation is one step, whatever it asks for.
+impl Drop for Op {
+    fn drop(self) {
+        match self {
+            Op::Add(_name, _attrs) => {}
+            Op::Delete(_name) => {}
+            Op::Modify(_name, _edits) => {}
+            Op::Rename(_name, _rdn, _, _superior) => {}
+            Op::Commit(_puts, _drops) => {}
+        }
+    }
 }
 
 /// A write that was accepted, with its CSN.

@@ -54,6 +54,7 @@ edit_exact = made_exact edit_parts edit_with (Sequence 48 (Both HowForm Attribut
 edit_shortens : Shortens EditForm
 edit_shortens bytes x rest h = Begins-shorter bytes 48 h.0 rest h.2
 
+-- a Modify is read from the octets that spell it, and from no others
 pub modify_exact : Exact ModifyForm modify_at
 unfolding modify_at
 modify_exact = sequence_exact place_of 102 _ _ (both_exact _ _ _ _ (octet_string_exact 4) (list_exact place_of 48 EditForm edit_at edit_exact edit_shortens))
@@ -105,6 +106,7 @@ edits_spelled = record {
       (list_spelled 48 EditForm edit_octets (Always {X = RawEdit}) (omega arith) edit_spelled).spells edits rest small (all_sound (Always {X = RawEdit}) (λ x. tt) edits) after;
 }
 
+-- the canonical octets of a Modify spell it
 pub modify_spelled : Spelled ModifyForm modify_octets (λ parts. Unit {0} × Unit {0}) Anything
 modify_spelled = sequence_spelled 102 (Both (OctetString 4) (ListOf 48 EditForm)) (λ parts. element 4 parts.0 ++ edits_octets parts.1) (λ parts. Unit {0} × Unit {0}) Anything (omega arith)
     (both_spelled (OctetString 4) (ListOf 48 EditForm) (element 4) edits_octets (Always {X = List ℕ}) (Always {X = List RawEdit}) Anything Anything (octets_spelled 4 (omega arith)) edits_spelled (λ y rest sound after. tt)) tt

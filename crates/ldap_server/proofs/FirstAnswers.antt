@@ -25,6 +25,7 @@ follows_end : (access : Access) (now : ℕ) (bytes : List ℕ) (whole : MessageV
 follows_end access now bytes whole count None old new read is s = (whole, read, frame_some bytes whole count read, frame_within bytes whole count read, s, is)
 follows_end access now bytes whole count (Some ended) old new read is s = (Arrived whole, rw read refl, s, is)
 
+-- a message that came whole: a session that did what it asks for follows the bytes, or has begun to
 pub follows_message : {E : Type 0} (access : Access) (now : ℕ) (bytes : List ℕ) (whole : MessageValue) (count : ℕ) (old new : Point) (r : Result FirstFrame E)
     → read_of bytes ≡ message whole count → IfOk r (λ n. n ≡ next_after count (end_of (Answers (Arrived whole) now)))
     → PerformedOrBegun (Does access (Answers (Arrived whole) now)) old r new → FollowsOrBegins access now bytes old r new

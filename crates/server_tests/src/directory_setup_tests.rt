@@ -1,6 +1,7 @@
 //! What files lead to: a directory that is to be served, or why there is none. The codes are those
 //! of RFC 4511, appendix A.2, and the records are by RFC 2849.
 
+use crate::assertions::{assert_same, joined, shown};
 use crate::ldap_server_tests::provider;
 use directory_setup::{
     FileText, Filling, LineCause, ReadyDirectory, Setup, SetupRefusal, fill, read_file, set_up,
@@ -10,6 +11,7 @@ use ldap_ber::{NoMemory, Octets, discard};
 use ldap_constants::{COMPARE_TRUE, NO_SUCH_OBJECT};
 use ldap_session::Access;
 use std::alloc::Global;
+use std::process::Abort;
 use std::str;
 use std::sync::Wait;
 use std::test::Fail;
@@ -40,7 +42,7 @@ const SETUPS: [Row; 19] = [
     (
         &[("serve", "listen = 'here:389'\nsuffix = 'dc=x'\n")],
         2,
-        "here:389 free, 16 seats, 0 connections, 0 writes",
+        r#"("here:389", "free", 16, 0, 0, None)"#,
     ),
     (
         &[
@@ -53,12 +55,12 @@ const SETUPS: [Row; 19] = [
             ("entries", ENTRIES),
         ],
         2,
-        "here:390 cn=m p, 2 seats, 3 connections, 2 writes",
+        r#"("here:390", "cn=m p", 2, 3, 2, None)"#,
     ),
     (
         &[("serve", WITH_FILE), ("entries", "# no record\n")],
         2,
-        "here:389 free, 16 seats, 0 connections, 0 writes",
+        r#"("here:389", "free", 16, 0, 0, None)"#,
     ),
     (
         &[(
@@ -67,7 +69,7 @@ const SETUPS: [Row; 19] = [
              scope = 'sub'\nfilter = '(ou=*)'\nrounds = 3\n",
         )],
         2,
-        "here:389 free, 16 seats, 0 connections, 0 writes, follows there:389, 3 rounds",
+        r#"("here:389", "free", 16, 0, 0, Some(("there:389", 3)))"#,
     ),
     (
         &[("serve", "listen = 'here:389'\n")],
@@ -95,17 +97,17 @@ const SETUPS: [Row; 19] = [
     (
         &[("serve", WITH_FILE), ("entries", "dn: dc=x\nobjectClass")],
         2,
-        "line 2 BadLine",
+        "(2, BadLine)",
     ),
     (
         &[("serve", WITH_FILE), ("entries", "dn: dc=x\no:: =\n")],
         2,
-        "line 2 BadBase64",
+        "(2, BadBase64)",
     ),
     (
         &[("serve", WITH_FILE), ("entries", "dn: dc=x\n\nou: a\n")],
         2,
-        "line 1 BadChange",
+        "(1, BadChange)",
     ),
     // Whole records that are no adds, and adds that are rejected.
     (
@@ -114,7 +116,7 @@ const SETUPS: [Row; 19] = [
             ("entries", "dn: dc=x\nchangetype: delete\n"),
         ],
         2,
-        "line 2 BadChange",
+        "(2, BadChange)",
     ),
     (
         &[
@@ -125,7 +127,7 @@ const SETUPS: [Row; 19] = [
             ),
         ],
         2,
-        "line 4 Refused(32)",
+        "(4, Refused(32))",
     ),
     (
         &[
@@ -136,7 +138,7 @@ const SETUPS: [Row; 19] = [
             ),
         ],
         2,
-        "line 4 Refused(17)",
+        "(4, Refused(17))",
     ),
     (
         &[
@@ -148,7 +150,7 @@ const SETUPS: [Row; 19] = [
             ),
         ],
         2,
-        "line 11 Refused(68)",
+        "(11, Refused(68))",
     ),
     (
         &[
@@ -156,20 +158,24 @@ const SETUPS: [Row; 19] = [
             ("entries", "dn: dc=x\nobjectClass: organization\n"),
         ],
         2,
-        "line 2 Refused(65)",
+        "(2, Refused(65))",
     ),
 ];
 
 /// A shelf with these files.
-fn shelf_of(alloc: Global, files: &[(&str, &str)]) -> Result<MemoryShelf, NoMemory> {
+fn shelf_of(rt: &impl Abort, alloc: Global, files: &[(&str, &str)]) -> MemoryShelf {
     let mut held = Vec::new(alloc);
     for (name, text) in files {
-        held.push(NamedFile {
-            name: String::from_str(alloc, name)?,
-            bytes: Octets::from_slice(alloc, text.as_bytes())?,
-        })?;
+        let bytes = Octets::from_slice(alloc, text.as_bytes());
+        let file = named(rt, alloc, name, bytes.expect(rt, "bytes"));
+        held.push(file).expect(rt, "a file");
     }
-    Ok(MemoryShelf::new(held))
+    MemoryShelf::new(held)
+}
+
+fn named(rt: &impl Abort, alloc: Global, name: &str, bytes: Octets) -> NamedFile {
+    let name = String::from_str(alloc, name).expect(rt, "a name");
+    NamedFile { name, bytes }
 }
 
 /// Who may write: all, or a name with its password.
@@ -178,7 +184,9 @@ fn access_text(alloc: Global, access: &Access) -> Result<String, NoMemory> {
         Access::Free => String::from_str(alloc, "free"),
         Access::Named(name, password) => {
             let name = name.write()?;
-            format!(in alloc; "{} {}", utf8(name.as_slice()), utf8(password.as_slice()))
+            let mut text = joined(alloc, utf8(name.as_slice()), " ")?;
+            text.push_str(utf8(password.as_slice()))?;
+            Ok(text)
         }
     }
 }
@@ -187,86 +195,95 @@ fn utf8(bytes: &[u8]) -> &str {
     str::from_utf8(bytes).unwrap_or("no text")
 }
 
-/// The directory that a directory follows, where there is one.
-fn followed_text(alloc: Global, ready: &ReadyDirectory) -> Result<String, NoMemory> {
+/// The address of the directory that a directory follows, where there is one, and how many
+/// connections to it are tried.
+fn followed(ready: &ReadyDirectory) -> Option<(&str, u64)> {
     match &ready.upstream {
-        Some(upstream) => format!(in alloc;
-            ", follows {}, {} rounds",
-            upstream.address.as_str(),
-            ready.rounds
-        ),
-        None => String::from_str(alloc, ""),
+        Some(upstream) => Some((upstream.address.as_str(), ready.rounds)),
+        None => None,
     }
 }
 
+/// The address, who may write, how many seats, connections and writes there are, and what it
+/// follows.
 fn ready_text(alloc: Global, ready: &ReadyDirectory) -> Result<String, NoMemory> {
     let access = access_text(alloc, &ready.access)?;
-    let followed = followed_text(alloc, ready)?;
-    format!(in alloc;
-        "{} {}, {} seats, {} connections, {} writes{}",
-        ready.listen.as_str(),
-        access.as_str(),
-        ready.seats,
-        ready.connections,
-        ready.provider.writes(),
-        followed.as_str()
+    let (listen, access) = (ready.listen.as_str(), access.as_str());
+    let (seats, connections) = (ready.seats, ready.connections);
+    let writes = ready.provider.writes();
+    let followed = followed(ready);
+    shown(
+        alloc,
+        &(listen, access, seats, connections, writes, followed),
     )
 }
 
 fn config_text(alloc: Global, fault: &ConfigFault) -> Result<String, NoMemory> {
     match fault {
         ConfigFault::NotToml => String::from_str(alloc, "config NotToml"),
-        ConfigFault::MissingKey(key) => format!(in alloc; "config MissingKey {}", key.as_str()),
-        ConfigFault::BadValue(key) => format!(in alloc; "config BadValue {}", key.as_str()),
+        ConfigFault::MissingKey(key) => joined(alloc, "config MissingKey ", key.as_str()),
+        ConfigFault::BadValue(key) => joined(alloc, "config BadValue ", key.as_str()),
         ConfigFault::NoMemory => String::from_str(alloc, "config NoMemory"),
     }
 }
 
-/// What files led to, in words.
-fn shown(alloc: Global, setup: &Setup) -> Result<String, NoMemory> {
+/// What files led to, in words; of a refusal at a line its number and the cause.
+fn setup_text(alloc: Global, setup: &Setup) -> Result<String, NoMemory> {
     match setup {
         Setup::Ready(ready) => ready_text(alloc, ready),
         Setup::Refused(SetupRefusal::InConfig(fault)) => config_text(alloc, fault),
-        Setup::Refused(SetupRefusal::AtLine(line, cause)) => {
-            format!(in alloc; "line {line} {cause:?}")
-        }
+        Setup::Refused(SetupRefusal::AtLine(line, cause)) => shown(alloc, &(*line, *cause)),
         Setup::ReadFault => String::from_str(alloc, "read fault"),
     }
 }
 
+/// As many words.
+fn words_of(alloc: Global, count: usize) -> Result<Vec<u64>, NoMemory> {
+    let mut words = Vec::new(alloc);
+    for word in 0..count {
+        words.push(word as u64)?;
+    }
+    Ok(words)
+}
+
+// Nothing is left early while a setup or a shelf stands, whose drop would be written out there:
+// what is missing ends the test.
+
 /// What the file `serve` leads to as a configuration, in words.
-fn set_up_of<R: Wait>(
+fn set_up_of<R: Wait + Abort>(
     rt: &R,
     alloc: Global,
     shelf: &mut MemoryShelf,
     words: usize,
-) -> Result<String, NoMemory> {
-    let mut random = Vec::new(alloc);
-    for word in 0..words {
-        random.push(word as u64)?;
-    }
-    let mut random = FixedWords::new(random);
+) -> String {
+    let words = words_of(alloc, words).expect(rt, "words");
+    let mut random = FixedWords::new(words);
     let mut clock = FixedClock { micros: 0 };
-    let setup = set_up(rt, alloc, "serve", shelf, &mut clock, &mut random)?;
-    let text = shown(alloc, &setup);
+    let setup = set_up(rt, alloc, "serve", shelf, &mut clock, &mut random);
+    let setup = setup.expect(rt, "a setup");
+    let text = setup_text(alloc, &setup);
     discard(setup);
-    text
+    text.expect(rt, "a text")
+}
+
+fn check_setup<R: Wait + Abort>(rt: &R, alloc: Global, row: &Row) {
+    let (files, words, wanted) = *row;
+    let mut shelf = shelf_of(rt, alloc, files);
+    let found = set_up_of(rt, alloc, &mut shelf, words);
+    discard(shelf);
+    assert_same(rt, "a setup", &found.as_str(), &wanted);
 }
 
 #[test]
-fn files_lead_to_a_directory_or_a_refusal(rt: HostRuntime) -> Result<(), Fail> {
-    let alloc = rt.alloc();
-    for (files, words, wanted) in SETUPS {
-        let mut shelf = shelf_of(alloc, files)?;
-        let found = set_up_of(&rt, alloc, &mut shelf, words)?;
-        assert!(rt; found.as_str() == wanted, "{found}");
+fn files_lead_to_a_directory_or_a_refusal(rt: HostRuntime) {
+    for row in &SETUPS {
+        check_setup(&rt, rt.alloc(), row);
     }
-    Ok(())
 }
 
 /// What a comparison of `ou` with `A` gives at `ou=a,dc=x`.
 fn code_of_unit(alloc: Global, provider: &Provider) -> Result<u32, Fail> {
-    let name = Dn::parse(alloc, b"ou=a,dc=x").map_err(|_| Fail::from("no name"))?;
+    let name = Dn::parse(alloc, b"ou=a,dc=x")?;
     Ok(provider.compare(&name, b"ou", b"A"))
 }
 
@@ -286,92 +303,89 @@ fn filled_twice(
 /// The entries of a text are added up to a record that is refused, and stay.
 #[test]
 fn a_directory_is_filled_up_to_a_refused_record(rt: HostRuntime) -> Result<(), Fail> {
-    let mut provider = provider(rt.alloc())?;
+    let mut provider = provider(&rt, rt.alloc());
     let filled = filled_twice(rt.alloc(), &mut provider);
     let writes = provider.writes();
     discard(provider);
     let (before, first, second, after) = filled?;
     assert!(rt; before == NO_SUCH_OBJECT && first == Filling::Filled);
-    assert!(rt;
-        second == Filling::Refused(5, LineCause::Refused(68)),
-        "{second:?}"
-    );
+    let refused = Filling::Refused(5, LineCause::Refused(68));
+    assert_same(&rt, "the second time", &second, &refused);
     assert!(rt; after == COMPARE_TRUE && writes == 2);
     Ok(())
 }
 
 /// Whether the file of this name is read as this text.
-fn is_read_as<R: Wait>(
+fn is_read_as<R: Wait + Abort>(
     rt: &R,
     alloc: Global,
     shelf: &mut MemoryShelf,
     name: &str,
     wanted: &[u8],
-) -> Result<bool, NoMemory> {
-    match read_file(rt, alloc, shelf, name)? {
-        FileText::Text(text) => Ok(text.as_slice() == wanted),
-        FileText::Failed => Ok(false),
+) -> bool {
+    match read_file(rt, alloc, shelf, name).expect(rt, "a text") {
+        FileText::Text(text) => text.as_slice() == wanted,
+        FileText::Failed => false,
     }
 }
 
 /// A file is read whole, also where that takes more than one read.
 #[test]
-fn a_file_is_read_whole(rt: HostRuntime) -> Result<(), Fail> {
+fn a_file_is_read_whole(rt: HostRuntime) {
     let alloc = rt.alloc();
     let long = [b'x'; 9_000];
-    let mut shelf = shelf_of(
-        alloc,
-        &[("short", "a\nb"), ("long", utf8(&long)), ("empty", "")],
-    )?;
-    assert!(rt; is_read_as(&rt, alloc, &mut shelf, "short", b"a\nb")?);
-    assert!(rt; is_read_as(&rt, alloc, &mut shelf, "long", &long)?);
-    assert!(rt; is_read_as(&rt, alloc, &mut shelf, "empty", b"")?);
+    let files = [("short", "a\nb"), ("long", utf8(&long)), ("empty", "")];
+    let mut shelf = shelf_of(&rt, alloc, &files);
+    assert!(rt; is_read_as(&rt, alloc, &mut shelf, "short", b"a\nb"));
+    assert!(rt; is_read_as(&rt, alloc, &mut shelf, "long", &long));
+    assert!(rt; is_read_as(&rt, alloc, &mut shelf, "empty", b""));
     assert!(rt; shelf.faults() == 0);
-    assert!(rt; !is_read_as(&rt, alloc, &mut shelf, "none", b"")? && shelf.faults() == 1);
-    Ok(())
+    assert!(rt; !is_read_as(&rt, alloc, &mut shelf, "none", b"") && shelf.faults() == 1);
+    discard(shelf);
 }
 
 /// How many line feeds an LDIF file has, how many bytes after them, and what it leads to.
-const LENGTHS: [(usize, usize, &str); 4] = [
-    (
-        1_000_000,
-        0,
-        "here:389 free, 16 seats, 0 connections, 0 writes",
-    ),
-    (1_000_000, 1, "line 1000001 LimitReached(1000000)"),
-    (
-        1,
-        67_108_863,
-        "here:389 free, 16 seats, 0 connections, 0 writes",
-    ),
-    (1, 67_108_864, "line 2 LimitReached(67108864)"),
+type LengthRow = (usize, usize, &'static str);
+
+const LENGTHS: [LengthRow; 4] = [
+    (1_000_000, 0, r#"("here:389", "free", 16, 0, 0, None)"#),
+    (1_000_000, 1, "(1000001, LimitReached(1000000))"),
+    (1, 67_108_863, r#"("here:389", "free", 16, 0, 0, None)"#),
+    (1, 67_108_864, "(2, LimitReached(67108864))"),
 ];
 
 /// A shelf with a configuration and this text as its LDIF file.
-fn shelf_with(alloc: Global, text: Vec<u8>) -> Result<MemoryShelf, NoMemory> {
+fn shelf_with(rt: &impl Abort, alloc: Global, text: Vec<u8>) -> MemoryShelf {
     let mut held = Vec::new(alloc);
-    held.push(NamedFile {
-        name: String::from_str(alloc, "serve")?,
-        bytes: Octets::from_slice(alloc, WITH_FILE.as_bytes())?,
-    })?;
-    held.push(NamedFile {
-        name: String::from_str(alloc, "entries")?,
-        bytes: Octets::from(text),
-    })?;
-    Ok(MemoryShelf::new(held))
+    let config = Octets::from_slice(alloc, WITH_FILE.as_bytes());
+    let serve = named(rt, alloc, "serve", config.expect(rt, "bytes"));
+    held.push(serve).expect(rt, "a file");
+    let entries = named(rt, alloc, "entries", Octets::from(text));
+    held.push(entries).expect(rt, "a file");
+    MemoryShelf::new(held)
+}
+
+/// As many line feeds, and as many bytes after them.
+fn text_of(alloc: Global, lines: usize, more: usize) -> Result<Vec<u8>, NoMemory> {
+    let mut text = Vec::new(alloc);
+    text.resize(lines, b'\n')?;
+    text.resize(lines.saturating_add(more), b'#')?;
+    Ok(text)
+}
+
+fn check_length<R: Wait + Abort>(rt: &R, alloc: Global, row: &LengthRow) {
+    let (lines, more, wanted) = *row;
+    let text = text_of(alloc, lines, more).expect(rt, "a text");
+    let mut shelf = shelf_with(rt, alloc, text);
+    let found = set_up_of(rt, alloc, &mut shelf, 2);
+    discard(shelf);
+    assert_same(rt, "a long text", &found.as_str(), &wanted);
 }
 
 /// An LDIF file has 1,000,000 lines and 67,108,864 bytes at most.
 #[test]
-fn a_text_that_is_too_long_is_refused(rt: HostRuntime) -> Result<(), Fail> {
-    let alloc = rt.alloc();
-    for (lines, more, wanted) in LENGTHS {
-        let mut text = Vec::new(alloc);
-        text.resize(lines, b'\n')?;
-        text.resize(lines.saturating_add(more), b'#')?;
-        let mut shelf = shelf_with(alloc, text)?;
-        let found = set_up_of(&rt, alloc, &mut shelf, 2)?;
-        assert!(rt; found.as_str() == wanted, "{found} in place of {wanted}");
+fn a_text_that_is_too_long_is_refused(rt: HostRuntime) {
+    for row in &LENGTHS {
+        check_length(&rt, rt.alloc(), row);
     }
-    Ok(())
 }

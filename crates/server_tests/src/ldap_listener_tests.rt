@@ -1,15 +1,16 @@
 //! Connections of a net in memory, each on a thread of its own, over one directory.
 
+use crate::assertions::assert_same;
 use crate::ldap_server_tests::{ADD, ADDED, BIND, BOUND, FOUND, SEARCH, UNBIND, provider};
 use crate::serving_tests::{Part, plan_of};
-use ldap_ber::{NoMemory, discard};
+use ldap_ber::discard;
 use ldap_listener::{Limits, serve_directory};
 use ldap_server::{Access, OpenGate};
 use std::alloc::Global;
+use std::process::Abort;
 use std::sync::Wait;
-use std::test::Fail;
 use std::thread::Threads;
-use sync_io::{FixedClock, MemoryNet, Net, NetFault};
+use sync_io::{FixedClock, MemoryLink, MemoryNet, Net, NetFault};
 
 /// A link of a net: what its reads give, which write fails, if one does, and what was written on it
 /// when it is released.
@@ -63,31 +64,33 @@ const NETS: [NetRow; 4] = [
     ),
 ];
 
-fn net_of(alloc: Global, links: &[LinkRow]) -> Result<MemoryNet, NoMemory> {
+fn net_of(rt: &impl Abort, alloc: Global, links: &[LinkRow]) -> MemoryNet {
     let mut plans = Vec::new(alloc);
     for (parts, failing, _) in links {
-        plans.push(plan_of(alloc, parts, *failing)?)?;
+        let plan = plan_of(alloc, parts, *failing).expect(rt, "a plan");
+        plans.push(plan).expect(rt, "a plan");
     }
-    Ok(MemoryNet::new(alloc, plans, Vec::new(alloc)))
+    MemoryNet::new(alloc, plans, Vec::new(alloc))
 }
+
+// Nothing is left early while a net or a directory stands, whose drop would be written out there:
+// what is missing ends the test.
 
 /// Serves the links of a net, and gives how many writes were accepted, and how the net failed, if
 /// it did.
-fn serve<R: Threads + Wait + Sync>(
+fn serve<R: Threads + Wait + Sync + Abort>(
     rt: &R,
     alloc: Global,
     net: &mut MemoryNet,
     limits: Limits,
-) -> Result<(u64, Option<NetFault>), Fail> {
+) -> (u64, Option<NetFault>) {
     if limits.seats < 1 || 1_024 < limits.seats {
-        return Err(Fail::from("no seats, or too many"));
+        panic!(rt; "no seats, or too many")
     }
-    let Ok(door) = net.listen("here:389") else {
-        return Err(Fail::from("no door"));
-    };
-    let provider = provider(alloc)?;
+    let door = net.listen("here:389").expect(rt, "a door");
+    let provider = provider(rt, alloc);
     let clock = FixedClock { micros: 0 };
-    let (provider, accepted) = serve_directory(
+    let served = serve_directory(
         rt,
         alloc,
         provider,
@@ -97,30 +100,40 @@ fn serve<R: Threads + Wait + Sync>(
         door,
         clock,
         &OpenGate,
-    )?;
+    );
+    let (provider, accepted) = served.expect(rt, "a directory");
     let writes = provider.writes();
     discard(provider);
-    Ok((writes, accepted.err()))
+    (writes, accepted.err())
+}
+
+/// Asserts that each link was released, and what was written on it.
+fn assert_released(rt: &impl Abort, row: &str, released: &[MemoryLink], links: &[LinkRow]) {
+    assert_same(rt, row, &released.len(), &links.len());
+    for (link, (_, _, held)) in released.iter().zip(links) {
+        assert_same(rt, row, &link.bytes_held(), held);
+    }
+}
+
+fn check_net<R: Threads + Wait + Sync + Abort>(rt: &R, alloc: Global, row: &NetRow) {
+    let (name, connections, links, writes, fault) = *row;
+    let mut net = net_of(rt, alloc, links);
+    let limits = Limits {
+        seats: 1,
+        connections,
+    };
+    let found = serve(rt, alloc, &mut net, limits);
+    assert_same(rt, name, &found, &(writes, fault));
+    assert_same(rt, name, &net.accepted(), &links.len());
+    assert_released(rt, name, net.released(), links);
+    discard(net);
 }
 
 #[test]
-fn connections_of_one_seat(rt: HostRuntime) -> Result<(), Fail> {
-    let alloc = rt.alloc();
-    for (row, connections, links, writes, fault) in NETS {
-        let mut net = net_of(alloc, links)?;
-        let limits = Limits {
-            seats: 1,
-            connections,
-        };
-        let found = serve(&rt, alloc, &mut net, limits)?;
-        assert!(rt; found == (writes, fault), "{row}: {found:?}");
-        assert!(rt; net.accepted() == links.len(), "{row}");
-        assert!(rt; net.released().len() == links.len(), "{row}");
-        for (link, (_, _, held)) in net.released().iter().zip(links) {
-            assert!(rt; link.bytes_held() == *held, "{row}");
-        }
+fn connections_of_one_seat(rt: HostRuntime) {
+    for row in &NETS {
+        check_net(&rt, rt.alloc(), row);
     }
-    Ok(())
 }
 
 /// How many connections are served at once.
@@ -129,25 +142,25 @@ const SEATS: [u32; 3] = [1, 3, 8];
 /// A link that binds and unbinds.
 const BOUND_LINK: LinkRow = (&[Part::Give(BIND), Part::Give(UNBIND)], None, BOUND);
 
+fn check_seats<R: Threads + Wait + Sync + Abort>(rt: &R, alloc: Global, seats: u32) {
+    let mut net = net_of(rt, alloc, &[BOUND_LINK; 9]);
+    let limits = Limits {
+        seats,
+        connections: 9,
+    };
+    let found = serve(rt, alloc, &mut net, limits);
+    assert_same(rt, "seats", &found, &(0, None));
+    assert_same(rt, "links", &net.released().len(), &9);
+    for link in net.released() {
+        assert!(rt; link.bytes_held() == BOUND && link.bytes_read().len() == 21);
+    }
+    discard(net);
+}
+
 /// Each connection is answered, and its link released once, however many seats there are.
 #[test]
-fn connections_of_some_seats(rt: HostRuntime) -> Result<(), Fail> {
-    let alloc = rt.alloc();
-    let links = [BOUND_LINK; 9];
-    for seats in SEATS {
-        let mut net = net_of(alloc, &links)?;
-        let limits = Limits {
-            seats,
-            connections: 9,
-        };
-        let found = serve(&rt, alloc, &mut net, limits)?;
-        assert!(rt;
-            found == (0, None) && net.released().len() == 9,
-            "{seats} seats"
-        );
-        for link in net.released() {
-            assert!(rt; link.bytes_held() == BOUND && link.bytes_read().len() == 21);
-        }
+fn connections_of_some_seats(rt: HostRuntime) {
+    for seats in &SEATS {
+        check_seats(&rt, rt.alloc(), *seats);
     }
-    Ok(())
 }

@@ -2,12 +2,12 @@
 //! RFC 3909, section 2, and of RFC 4533, section 2.2; the codes are those of RFC 4511, appendix
 //! A.2, and of RFC 3909, section 3.
 
+use crate::assertions::assert_same;
 use dn_names::Dn;
 use ldap_ber::{Octets, discard};
 use ldap_server::{Access, Connection, Ended, Out};
 use std::alloc::Global;
 use std::process::Abort;
-use std::test::Fail;
 use sync_provider::{Kind, Provider};
 
 /// A search for `dc=x` with a critical ManageDsaIT, all lengths in five octets.
@@ -87,7 +87,7 @@ const BOUND_NAMED: &[u8] = b"\x30\x0c\x02\x01\x05\x61\x07\x0a\x01\x00\x04\x00\x0
 const DENIED: &[u8] = b"\x30\x0c\x02\x01\x01\x69\x07\x0a\x01\x32\x04\x00\x04\x00";
 
 /// What comes to a session.
-#[derive(Clone, Copy, Debug)]
+#[derive(Clone, Copy)]
 enum Event {
     Bytes(&'static [u8]),
     Quiet,
@@ -95,7 +95,7 @@ enum Event {
 }
 
 /// What a session sends for an event.
-#[derive(Clone, Copy, Debug)]
+#[derive(Clone, Copy)]
 enum Sent {
     Exactly(&'static [u8]),
     /// These bytes, and more after them.
@@ -303,26 +303,26 @@ const LONG_REQUEST: &[u8] = b"\x30\x84\x00\x10\x00\x14\x02\x01\x01\x77\x84\x00\x
 const UNKNOWN_OPERATION: &[u8] = b"\x30\x0c\x02\x01\x01\x78\x07\x0a\x01\x02\x04\x00\x04\x00";
 
 /// A directory with the suffix `dc=x` and no entries.
-pub(crate) fn provider(alloc: Global) -> Result<Provider, Fail> {
-    let suffix = Dn::parse(alloc, b"dc=x").map_err(|_| Fail::from("no name"))?;
-    Ok(Provider::new(alloc, suffix, 1, 1, Kind::Root)?)
+pub(crate) fn provider(rt: &impl Abort, alloc: Global) -> Provider {
+    let suffix = Dn::parse(alloc, b"dc=x").expect(rt, "a suffix");
+    Provider::new(alloc, suffix, 1, 1, Kind::Root).expect(rt, "a directory")
 }
 
 /// A session over such a directory.
-pub(crate) fn session(alloc: Global, access: Access) -> Result<Connection<Provider>, Fail> {
-    match Connection::new(alloc, provider(alloc)?, access) {
-        Ok(connection) => Ok(connection),
-        Err((_, provider)) => {
-            discard(provider);
-            Err(Fail::from("no session"))
-        }
+pub(crate) fn session(rt: &impl Abort, alloc: Global, access: Access) -> Connection<Provider> {
+    match Connection::new(alloc, provider(rt, alloc), access) {
+        Ok(connection) => connection,
+        Err(_) => panic!(rt; "no session"),
     }
 }
 
-fn is_sent(bytes: &[u8], sent: Sent) -> bool {
+fn assert_sent(rt: &impl Abort, row: &str, bytes: &[u8], sent: Sent) {
     match sent {
-        Sent::Exactly(wanted) => bytes == wanted,
-        Sent::More(prefix) => prefix.len() < bytes.len() && bytes.starts_with(prefix),
+        Sent::Exactly(wanted) => assert_same(rt, row, &bytes, &wanted),
+        Sent::More(prefix) => {
+            let has_more = prefix.len() < bytes.len() && bytes.starts_with(prefix);
+            assert_same(rt, row, &has_more, &true);
+        }
     }
 }
 
@@ -331,67 +331,60 @@ fn assert_out(rt: &impl Abort, row: &str, out: Out, sent: Sent, ended: Option<En
         bytes,
         ended: found,
     } = out;
-    assert!(rt;
-        is_sent(bytes.as_slice(), sent) && found == ended,
-        "{row}: {:?} {found:?} in place of {sent:?} {ended:?}",
-        bytes.as_slice()
-    );
+    assert_sent(rt, row, bytes.as_slice(), sent);
+    assert_same(rt, row, &found, &ended);
 }
 
 /// Asserts that these events lead a session to what is sent, and to how it ends.
-fn assert_session(
-    rt: &impl Abort,
-    alloc: Global,
-    access: Access,
-    rows: &[Row],
-) -> Result<(), Fail> {
-    let mut session = session(alloc, access)?;
+fn assert_session(rt: &impl Abort, alloc: Global, access: Access, rows: &[Row]) {
+    let mut session = session(rt, alloc, access);
     for row in rows {
-        let (name, event, sent, ended) = *row;
-        let out = match event {
-            Event::Bytes(bytes) => session.on_bytes(bytes, 0),
-            Event::Quiet => session.on_quiet(),
-            Event::End => session.on_end(),
-        };
-        assert_out(rt, name, out, sent, ended);
+        assert_row(rt, &mut session, row);
     }
     discard(session);
-    Ok(())
+}
+
+fn assert_row(rt: &impl Abort, session: &mut Connection<Provider>, row: &Row) {
+    let (name, event, sent, ended) = *row;
+    let out = match event {
+        Event::Bytes(bytes) => session.on_bytes(bytes, 0),
+        Event::Quiet => session.on_quiet(),
+        Event::End => session.on_end(),
+    };
+    assert_out(rt, name, out, sent, ended);
 }
 
 #[test]
-fn sessions(rt: HostRuntime) -> Result<(), Fail> {
-    for rows in SESSIONS {
-        assert_session(&rt, rt.alloc(), Access::Free, rows)?;
+fn sessions(rt: HostRuntime) {
+    for rows in &SESSIONS {
+        assert_session(&rt, rt.alloc(), Access::Free, *rows);
     }
-    Ok(())
 }
 
 #[test]
-fn a_session_of_the_configured_name(rt: HostRuntime) -> Result<(), Fail> {
-    let alloc = rt.alloc();
-    let name = Dn::parse(alloc, b"cn=m").map_err(|_| Fail::from("no name"))?;
-    let access = Access::Named(name, Octets::from_slice(alloc, b"p")?);
-    assert_session(&rt, alloc, access, &NAMED)
+fn a_session_of_the_configured_name(rt: HostRuntime) {
+    let name = Dn::parse(rt.alloc(), b"cn=m").expect(&rt, "a name");
+    let password = Octets::from_slice(rt.alloc(), b"p").expect(&rt, "a password");
+    let access = Access::Named(name, password);
+    assert_session(&rt, rt.alloc(), access, &NAMED);
 }
 
 /// The port of a session comes back with what was done through it.
 #[test]
-fn a_port_comes_back(rt: HostRuntime) -> Result<(), Fail> {
-    let mut session = session(rt.alloc(), Access::Free)?;
+fn a_port_comes_back(rt: HostRuntime) {
+    let mut session = session(&rt, rt.alloc(), Access::Free);
     discard(session.on_bytes(ADD, 0));
     let provider = session.into_port();
     let writes = provider.writes();
     discard(provider);
     assert!(rt; writes == 1);
-    Ok(())
 }
 
 /// A long message that comes an octet at a time is read once, when it is whole. If what has come
 /// were read again at each octet, the test would not end in its time.
 #[test]
-fn a_long_message_by_octets(rt: HostRuntime) -> Result<(), Fail> {
-    let mut session = session(rt.alloc(), Access::Free)?;
+fn a_long_message_by_octets(rt: HostRuntime) {
+    let mut session = session(&rt, rt.alloc(), Access::Free);
     for octet in LONG_REQUEST {
         let out = session.on_bytes(&[*octet], 0);
         assert_out(&rt, "before the value", out, NOTHING, None);
@@ -404,5 +397,4 @@ fn a_long_message_by_octets(rt: HostRuntime) -> Result<(), Fail> {
     let answer = Sent::Exactly(UNKNOWN_OPERATION);
     assert_out(&rt, "the last octet", out, answer, None);
     discard(session);
-    Ok(())
 }

@@ -1,15 +1,16 @@
 //! Sessions over links in memory: what is read and written, and how they end.
 
+use crate::assertions::assert_same;
 use crate::ldap_server_tests::{ADD, BIND, BOUND, UNBIND, session};
 use ldap_ber::{NoMemory, Octets, discard};
 use ldap_server::{Access, Ended, OpenGate, serve_connection};
 use std::alloc::Global;
+use std::process::Abort;
 use std::sync::Wait;
-use std::test::Fail;
 use sync_io::{FixedClock, LinkPlan, MemoryLink, Step};
 
 /// What a read of a link gives.
-#[derive(Clone, Copy, Debug)]
+#[derive(Clone, Copy)]
 pub(crate) enum Part {
     Give(&'static [u8]),
     Quiet,
@@ -18,7 +19,16 @@ pub(crate) enum Part {
 
 /// Links: what their reads give, which write fails, if one does, and of the session over them how
 /// it ends, how many bytes were read, and what was written.
-const LINKS: [(&str, &[Part], Option<u64>, Ended, usize, &[u8]); 5] = [
+type LinkRow = (
+    &'static str,
+    &'static [Part],
+    Option<u64>,
+    Ended,
+    usize,
+    &'static [u8],
+);
+
+const LINKS: [LinkRow; 5] = [
     (
         "a bind in two pieces, and an unbind",
         &[
@@ -82,16 +92,21 @@ fn step_of(alloc: Global, part: Part) -> Result<Step, NoMemory> {
     }
 }
 
+fn steps_of(alloc: Global, parts: &[Part]) -> Result<Vec<Step>, NoMemory> {
+    let mut steps = Vec::new(alloc);
+    for part in parts {
+        steps.push(step_of(alloc, *part)?)?;
+    }
+    Ok(steps)
+}
+
 /// The plan of a link whose reads give these parts, and whose write with this number fails.
 pub(crate) fn plan_of(
     alloc: Global,
     parts: &[Part],
     failing: Option<u64>,
 ) -> Result<LinkPlan, NoMemory> {
-    let mut steps = Vec::new(alloc);
-    for part in parts {
-        steps.push(step_of(alloc, *part)?)?;
-    }
+    let steps = steps_of(alloc, parts)?;
     let mut numbers = Vec::new(alloc);
     if let Some(number) = failing {
         numbers.push(number)?;
@@ -103,36 +118,39 @@ pub(crate) fn plan_of(
 }
 
 /// Serves a link where the clock shows this time, and gives how its session ended.
-fn serve(rt: &impl Wait, alloc: Global, link: &mut MemoryLink, micros: u64) -> Result<Ended, Fail> {
-    let mut connection = session(alloc, Access::Free)?;
+fn serve<R: Wait + Abort>(rt: &R, alloc: Global, link: &mut MemoryLink, micros: u64) -> Ended {
+    let mut connection = session(rt, alloc, Access::Free);
     let clock = FixedClock { micros };
     let ended = serve_connection(rt, 1, &mut connection, link, clock, &OpenGate);
     discard(connection);
-    Ok(ended)
+    ended
+}
+
+fn check_link<R: Wait + Abort>(rt: &R, alloc: Global, row: &LinkRow) {
+    let (name, parts, failing, ended, read, held) = *row;
+    let plan = plan_of(alloc, parts, failing).expect(rt, "a plan");
+    let mut link = MemoryLink::new(alloc, plan);
+    let found = serve(rt, alloc, &mut link, 0);
+    assert_same(rt, name, &found, &ended);
+    assert_same(rt, name, &link.bytes_read().len(), &read);
+    assert_same(rt, name, &link.bytes_held(), &held);
+    discard(link);
 }
 
 #[test]
-fn sessions_over_links(rt: HostRuntime) -> Result<(), Fail> {
-    let alloc = rt.alloc();
-    for (row, parts, failing, ended, read, held) in LINKS {
-        let mut link = MemoryLink::new(alloc, plan_of(alloc, parts, failing)?);
-        let found = serve(&rt, alloc, &mut link, 0)?;
-        assert!(rt; found == ended, "{row}: {found:?}");
-        assert!(rt;
-            link.bytes_held() == held && link.bytes_read().len() == read,
-            "{row}"
-        );
+fn sessions_over_links(rt: HostRuntime) {
+    for row in &LINKS {
+        check_link(&rt, rt.alloc(), row);
     }
-    Ok(())
 }
 
 /// A write has the time that the clock shows when its piece comes.
 #[test]
-fn a_write_has_the_time_of_the_clock(rt: HostRuntime) -> Result<(), Fail> {
-    let alloc = rt.alloc();
+fn a_write_has_the_time_of_the_clock(rt: HostRuntime) {
     let parts = [Part::Give(ADD), Part::Give(SEARCH_CSN)];
-    let mut link = MemoryLink::new(alloc, plan_of(alloc, &parts, None)?);
-    let ended = serve(&rt, alloc, &mut link, 1_700_000_000_000_000)?;
+    let plan = plan_of(rt.alloc(), &parts, None).expect(&rt, "a plan");
+    let mut link = MemoryLink::new(rt.alloc(), plan);
+    let ended = serve(&rt, rt.alloc(), &mut link, 1_700_000_000_000_000);
     assert!(rt; ended == Ended::EndOfInput && link.bytes_held() == ADDED_WITH_CSN);
-    Ok(())
+    discard(link);
 }

@@ -16,11 +16,20 @@ use turn_cell::Journalled;
 /// left it. Snapshots take no memory.
 ///
 /// The provider has memory of its own, since what a cell has is moved twice in each turn.
-#[derive(Drop)]
 pub struct HeldDirectory {
     now: Box<NumberedProvider>,
     /// By the numbers of the passes, the first of which is 1.
     last: Vec<Snapshot<NumberedProvider>>,
+}
+
+/// A call of its own, so that what drops it is one step.
+impl Drop for HeldDirectory {
+    fn drop(self) {
+        let HeldDirectory {
+            now: _now,
+            last: _last,
+        } = self;
+    }
 }
 
 impl Model for HeldDirectory {
@@ -88,7 +97,7 @@ impl HeldDirectory {
         ensures provider { result ≡ self.now.provider }
         ensures come { HaveCome self }
     {
-        let HeldDirectory { now, last: _ } = self;
+        let HeldDirectory { now, last: _last } = self;
         Box::into_inner(now).into_provider()
     }
 

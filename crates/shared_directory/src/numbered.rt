@@ -28,7 +28,6 @@ const SEARCH_NUMBERS: usize = 65;
 ///
 /// Of an entry since the ports were made the number of its port is kept, four bytes, unless it is
 /// the end of a search: that is of the port that opened the search.
-#[derive(Drop)]
 pub struct NumberedProvider {
     provider: Provider,
     /// How many entries the journal had when the ports were made.
@@ -36,6 +35,18 @@ pub struct NumberedProvider {
     numbers: Vec<u32>,
     /// The port that opened the last search under each number, or 0.
     openers: [u32; SEARCH_NUMBERS],
+}
+
+/// A call of its own, so that what drops it is one step.
+impl Drop for NumberedProvider {
+    fn drop(self) {
+        let NumberedProvider {
+            provider: _provider,
+            first: _,
+            numbers: _numbers,
+            openers: _,
+        } = self;
+    }
 }
 
 impl Model for NumberedProvider {
@@ -81,7 +92,7 @@ impl NumberedProvider {
         let NumberedProvider {
             provider,
             first: _,
-            numbers: _,
+            numbers: _numbers,
             openers: _,
         } = self;
         provider

@@ -25,11 +25,21 @@ const MOST_PAIRS: usize = 0x7fff_ffff_ffff_ffff;
 const MOST_LEVELS: u8 = 255;
 
 /// Pairs of a key and a value in ascending order of key, one pair at most for a key.
-#[derive(Drop)]
 pub struct SharedMap<K: Ord, V> {
     alloc: Global,
     root: Nodes<K, V>,
     len: usize,
+}
+
+/// A call of its own, so that what drops a map is one step.
+impl<K: Ord + Drop, V: Drop> Drop for SharedMap<K, V> {
+    fn drop(self) {
+        let SharedMap {
+            alloc: _,
+            root: _root,
+            len: _,
+        } = self;
+    }
 }
 
 impl<K: Ord, V> Model for SharedMap<K, V> {

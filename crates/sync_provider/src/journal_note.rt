@@ -5,7 +5,6 @@ use entry_tree::Write;
 
 /// An entry of the journal of a directory: what was done on it, in order. It is made for contracts;
 /// what is kept are the writes of the directory, and the events of its searches beside them.
-#[derive(Drop)]
 pub enum JournalNote {
     /// A write was accepted.
     Wrote(Write),
@@ -13,6 +12,17 @@ pub enum JournalNote {
     Opened(OpenedSearch),
     /// A search ended.
     Closed(ClosedSearch),
+}
+
+/// A call of its own, so that what drops it is one step, whatever it notes.
+impl Drop for JournalNote {
+    fn drop(self) {
+        match self {
+            JournalNote::Wrote(_write) => {}
+            JournalNote::Opened(_opened) => {}
+            JournalNote::Closed(_) => {}
+        }
+    }
 }
 
 /// A search that ended, by its end or because it was dropped.

@@ -41,7 +41,6 @@ const MOST_CHANGED: u64 = 1_048_576;
 
 /// A search that is open: what is left of its refresh, and the messages of later writes that were
 /// not handed out.
-#[derive(Drop)]
 pub struct OpenSearch {
     alloc: Global,
     /// What its messages are numbered with.
@@ -62,6 +61,25 @@ pub struct OpenSearch {
     staged_count: usize,
     /// Whether a write was too much for it. Then nothing is kept, and only the end is sent.
     over: bool,
+}
+
+/// A call of its own, so that what drops a search is one step.
+impl Drop for OpenSearch {
+    fn drop(self) {
+        let OpenSearch {
+            alloc: _,
+            id: _,
+            spec: _spec,
+            start: _,
+            accepted: _,
+            persists: _,
+            refresh: _refresh,
+            queue: _queue,
+            staged: _staged,
+            staged_count: _,
+            over: _,
+        } = self;
+    }
 }
 
 impl Model for OpenSearch {

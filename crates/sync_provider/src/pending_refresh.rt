@@ -24,7 +24,6 @@ use std::marker::Model;
 
 /// A refresh, as far as it is not handed out (RFC 4533, section 3.3): the identities that are not
 /// decided, and the messages of those that are.
-#[derive(Drop)]
 pub(crate) struct PendingRefresh {
     alloc: Global,
     /// How many writes there were when each piece was decided.
@@ -35,6 +34,20 @@ pub(crate) struct PendingRefresh {
     /// What changed in the content since the acceptance, while pieces are left.
     changed: ChangedSet,
     parts: Parts,
+}
+
+/// A call of its own, so that what drops a refresh is one step.
+impl Drop for PendingRefresh {
+    fn drop(self) {
+        let PendingRefresh {
+            alloc: _,
+            marks: _marks,
+            walk: _walk,
+            names: _names,
+            changed: _changed,
+            parts: _parts,
+        } = self;
+    }
 }
 
 impl Model for PendingRefresh {

@@ -45,10 +45,19 @@ pub enum Kind {
 
 /// A directory with the searches that are open on it, and its journal: the writes that were
 /// accepted, the searches that were opened, and their ends, in order.
-#[derive(Drop)]
 pub struct Provider {
     directory: SyncDirectory,
     journal: Journal,
+}
+
+/// A call of its own, so that what drops a provider is one step.
+impl Drop for Provider {
+    fn drop(self) {
+        let Provider {
+            directory: _directory,
+            journal: _journal,
+        } = self;
+    }
 }
 
 impl Model for Provider {

@@ -25,7 +25,6 @@ use std::marker::Model;
 const FIRST_QUEUE_LIMIT: u64 = 4_096;
 
 /// A directory with the searches that are open on it, by their numbers.
-#[derive(Drop)]
 pub struct SyncDirectory {
     pub(crate) alloc: Global,
     pub(crate) kind: Kind,
@@ -34,6 +33,19 @@ pub struct SyncDirectory {
     /// How many messages of later writes each search may have pending, or, while pieces of its
     /// refresh are left, how many identities that changed.
     pub(crate) queue_limit: u64,
+}
+
+/// A call of its own, so that what drops a directory is one step.
+impl Drop for SyncDirectory {
+    fn drop(self) {
+        let SyncDirectory {
+            alloc: _,
+            kind: _,
+            directory: _directory,
+            searches: _searches,
+            queue_limit: _,
+        } = self;
+    }
 }
 
 impl Model for SyncDirectory {
@@ -68,11 +80,12 @@ impl SyncDirectory {
         requires { sid < 4096 }
         ensures { IfOk result (λ provider. provider ≡ machine.fresh suffix sid history kind) }
     {
+        let searches = SearchTable::new(alloc)?;
         Ok(SyncDirectory {
             alloc,
             kind,
             directory: Directory::new(alloc, suffix, sid, history),
-            searches: SearchTable::new(alloc)?,
+            searches,
             queue_limit: FIRST_QUEUE_LIMIT,
         })
     }

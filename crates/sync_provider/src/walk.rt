@@ -32,10 +32,19 @@ pub(crate) enum WalkPlace {
 }
 
 /// The identities that a refresh goes through, as far as they are not decided, in ascending order.
-#[derive(Drop)]
 pub(crate) struct Walk {
     alloc: Global,
     place: WalkPlace,
+}
+
+/// A call of its own, so that what drops a walk is one step, wherever it goes through.
+impl Drop for Walk {
+    fn drop(self) {
+        let Walk {
+            alloc: _,
+            place: _place,
+        } = self;
+    }
 }
 
 impl Model for Walk {

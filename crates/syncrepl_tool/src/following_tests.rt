@@ -4,11 +4,13 @@ ghost use Rattle.std.specs.Prelude.{◌≡◌, ◌≤◌, IfSome, None, Some, re
 ghost use Rattle.sync_io.specs.Faults.{one_more};
 
 use crate::serve::serve_with;
-use ldap_ber::{NoMemory, Octets};
+use ldap_ber::{NoMemory, Octets, discard};
 use ldap_server::OpenGate;
 use std::alloc::Global;
+use std::sync::Wait;
 use std::sync::atomic::{AtomicU64, Ordering};
 use std::test::Fail;
+use std::thread::Threads;
 use sync_io::{
     Dial, FixedClock, FixedWords, Link, MemoryShelf, MemorySink, MemorySource, NamedFile, Net,
     NetFault, Piece, Put, Sink, Source,
@@ -343,36 +345,61 @@ fn words_of(alloc: Global) -> Result<FixedWords, NoMemory> {
     Ok(FixedWords::new(words))
 }
 
+/// The status of the directory that is served over this net, and what was said.
+fn served<R: Threads + Wait + Sync>(
+    rt: &R,
+    alloc: Global,
+    net: &mut OneNet<'_>,
+) -> Result<(u8, MemorySink), Fail> {
+    let mut shelf = shelf_of(alloc)?;
+    let mut words = words_of(alloc)?;
+    let mut errors = MemorySink::new(alloc);
+    let status = serve_with(
+        rt,
+        alloc,
+        "serve.toml",
+        &mut errors,
+        &mut shelf,
+        net,
+        &mut FixedClock { micros: 0 },
+        &mut words,
+        &OpenGate,
+    );
+    discard(shelf);
+    discard(words);
+    Ok((status?.code, errors))
+}
+
+/// Whether the answer was written on the link of the connection, which was released.
+fn is_answered(net: &OneNet<'_>) -> bool {
+    match &net.released {
+        Some(link) => link.sink.bytes() == ANSWER,
+        None => false,
+    }
+}
+
+/// Whether the caller was let go, and its one link hung up.
+fn is_let_go(net: &OneNet<'_>) -> bool {
+    match &net.let_go {
+        Some(caller) => caller.hung_up == 1 && caller.link.is_none(),
+        None => false,
+    }
+}
+
 /// What the upstream sends is found by the search of the one connection.
 #[test]
 fn a_replica_serves_what_it_follows(rt: HostRuntime) -> Result<(), Fail> {
-    let alloc = rt.alloc();
     let signal = Signal {
         ended: AtomicU64::new(0),
         given_up: AtomicU64::new(0),
     };
-    let mut net = net_of(alloc, &signal)?;
-    let mut errors = MemorySink::new(alloc);
-    let status = serve_with(
-        &rt,
-        alloc,
-        "serve.toml",
-        &mut errors,
-        &mut shelf_of(alloc)?,
-        &mut net,
-        &mut FixedClock { micros: 0 },
-        &mut words_of(alloc)?,
-        &OpenGate,
-    )?;
-    assert!(&rt; status.code == 0 && errors.bytes().is_empty());
-    assert!(&rt; signal.given_up.load(Ordering::SeqCst) == 0);
-    let Some(link) = &net.released else {
-        return Err(Fail::from("no link was released"));
-    };
-    assert!(&rt; link.sink.bytes() == ANSWER);
-    let Some(caller) = &net.let_go else {
-        return Err(Fail::from("no caller was let go"));
-    };
-    assert!(&rt; caller.hung_up == 1 && caller.link.is_none());
+    let mut net = net_of(rt.alloc(), &signal)?;
+    let served = served(&rt, rt.alloc(), &mut net);
+    let (is_answered, is_let_go) = (is_answered(&net), is_let_go(&net));
+    discard(net);
+    let (code, errors) = served?;
+    assert!(rt; code == 0 && errors.bytes().is_empty());
+    assert!(rt; signal.given_up.load(Ordering::SeqCst) == 0);
+    assert!(rt; is_answered && is_let_go);
     Ok(())
 }

@@ -1,18 +1,18 @@
 //! Searches over a net in memory: what is written and printed, and how they end. The bytes were
 //! encoded by hand, after RFC 4511, RFC 4533 and ITU-T X.690.
 
-ghost use Rattle.std.specs.Prelude.{◌<◌, ◌≤◌, IfOk, IfSome};
+ghost use Rattle.std.specs.Prelude.{◌<◌, ◌≤◌, IfSome};
 ghost use Rattle.ldap_filter.specs.FilterTree.{depth, tree_of};
 
+use crate::assertions::assert_same;
 use dn_names::Dn;
 use entry_tree::{Scope, Spec};
-use ldap_ber::{NoMemory, Octets};
+use ldap_ber::{NoMemory, Octets, discard};
 use ldap_filter::Filter;
 use ldap_search::{SearchEnd, search};
 use std::alloc::Global;
 use std::process::Abort;
 use std::sync::Wait;
-use std::test::Fail;
 use sync_io::{FaultySink, LinkPlan, MemoryNet, Step};
 
 /// The search request with the message ID 1 for all of `dc=x`; the same for all user and all
@@ -368,14 +368,11 @@ struct Searched {
     net: MemoryNet,
 }
 
-/// A link whose reads give these bytes, and then fail or come to an end, and whose writes with
-/// these numbers fail.
-fn plan_of(
-    alloc: Global,
-    reads: &[&[u8]],
-    fails: bool,
-    failing: &[u64],
-) -> Result<LinkPlan, NoMemory> {
+// Nothing is left early while a net or a search stands, whose drop would be written out there: what
+// is missing ends the test.
+
+/// Reads that give these bytes, and then fail or come to an end.
+fn steps_of(alloc: Global, reads: &[&[u8]], fails: bool) -> Result<Vec<Step>, NoMemory> {
     let mut steps = Vec::new(alloc);
     for bytes in reads {
         steps.push(Step::Give(Octets::from_slice(alloc, bytes)?))?;
@@ -383,22 +380,35 @@ fn plan_of(
     if fails {
         steps.push(Step::Fail)?;
     }
-    Ok(LinkPlan {
-        steps,
-        failing: failing.to_vec(alloc)?,
-    })
+    Ok(steps)
+}
+
+/// A link whose reads give these bytes, and then fail or come to an end, and whose writes with
+/// these numbers fail.
+pub(crate) fn plan_of(
+    rt: &impl Abort,
+    alloc: Global,
+    reads: &[&[u8]],
+    fails: bool,
+    failing: &[u64],
+) -> LinkPlan {
+    LinkPlan {
+        steps: steps_of(alloc, reads, fails).expect(rt, "steps"),
+        failing: failing.to_vec(alloc).expect(rt, "writes that fail"),
+    }
 }
 
 /// All of `dc=x`.
-fn all(alloc: Global) -> Result<Spec, Fail>
-    ensures { IfOk result (λ spec. depth (tree_of spec.filter) ≤ 32) }
+fn all(rt: &impl Abort, alloc: Global) -> Spec
+    ensures { depth (tree_of result.filter) ≤ 32 }
 {
-    let filter = Filter::Present(Octets::from_slice(alloc, b"objectClass")?);
-    Ok(Spec {
-        base: Dn::parse(alloc, b"dc=x")?,
+    let base = Dn::parse(alloc, b"dc=x").expect(rt, "a base");
+    let kind = Octets::from_slice(alloc, b"objectClass").expect(rt, "a type");
+    Spec {
+        base,
         scope: Scope::Sub,
-        filter,
-    })
+        filter: Filter::Present(kind),
+    }
 }
 
 /// The number of cookies, if it is not 0.
@@ -411,34 +421,42 @@ fn wanted(count: u64) -> Option<u64>
     Some(count)
 }
 
+/// A net with one caller, which has these links.
+fn net_of(rt: &impl Abort, alloc: Global, links: Vec<LinkPlan>) -> MemoryNet {
+    let mut calls = Vec::new(alloc);
+    calls.push(links).expect(rt, "a caller");
+    MemoryNet::new(alloc, Vec::new(alloc), calls)
+}
+
 /// Searches all of `dc=x` over a net with one caller, which has these links, for an output whose
 /// calls with these numbers fail.
-fn search_links<R: Wait>(
+fn search_links<R: Wait + Abort>(
     rt: &R,
     alloc: Global,
     links: Vec<LinkPlan>,
     unprinted: &[u64],
     count: u64,
-) -> Result<Searched, Fail> {
-    let mut calls = Vec::new(alloc);
-    calls.push(links)?;
-    let mut net = MemoryNet::new(alloc, Vec::new(alloc), calls);
-    let mut printed = FaultySink::new(alloc, unprinted.to_vec(alloc)?);
-    let spec = all(alloc)?;
-    let end = search(rt, alloc, "a", spec, wanted(count), &mut printed, &mut net)?;
-    Ok(Searched { end, printed, net })
+) -> Searched {
+    let unprinted = unprinted.to_vec(alloc).expect(rt, "calls that fail");
+    let mut net = net_of(rt, alloc, links);
+    let mut printed = FaultySink::new(alloc, unprinted);
+    let count = wanted(count);
+    let spec = all(rt, alloc);
+    let end = search(rt, alloc, "a", spec, count, &mut printed, &mut net);
+    let end = end.expect(rt, "an end");
+    Searched { end, printed, net }
 }
 
 /// The same with one link.
-fn search_link<R: Wait>(
+fn search_link<R: Wait + Abort>(
     rt: &R,
     alloc: Global,
     link: LinkPlan,
     unprinted: &[u64],
     count: u64,
-) -> Result<Searched, Fail> {
+) -> Searched {
     let mut links = Vec::new(alloc);
-    links.push(link)?;
+    links.push(link).expect(rt, "a link");
     search_links(rt, alloc, links, unprinted, count)
 }
 
@@ -452,73 +470,86 @@ fn assert_searched(
     printed: &[u8],
     written: &[u8],
 ) {
-    assert!(rt; searched.end == end, "{name}: end");
-    assert!(rt; searched.printed.bytes() == printed, "{name}: printed");
-    assert!(rt;
-        searched.net.retired().len() == 1 && searched.net.gone().is_empty(),
-        "{name}"
-    );
-    let caller = &searched.net.retired()[0];
-    assert!(rt;
-        caller.asked().len() == 1 && caller.hung_up().len() == 1,
-        "{name}: links"
-    );
-    assert!(rt;
-        caller.asked()[0].address.as_str() == "a",
-        "{name}: address"
-    );
-    assert!(rt;
-        caller.hung_up()[0].bytes_held() == written,
-        "{name}: written"
-    );
+    assert_same(rt, name, &searched.end, &end);
+    assert_same(rt, name, &searched.printed.bytes(), &printed);
+    assert_called(rt, name, &searched.net, written);
+}
+
+fn assert_called(rt: &impl Abort, name: &str, net: &MemoryNet, written: &[u8]) {
+    let counts = (net.retired().len(), net.gone().len());
+    assert_same(rt, name, &counts, &(1, 0));
+    let caller = net.retired().first().expect(rt, name);
+    let counts = (caller.asked().len(), caller.hung_up().len());
+    assert_same(rt, name, &counts, &(1, 1));
+    let attempt = caller.asked().first().expect(rt, name);
+    assert_same(rt, name, &attempt.address.as_str(), &"a");
+    let link = caller.hung_up().first().expect(rt, name);
+    assert_same(rt, name, &link.bytes_held(), &written);
+}
+
+fn check_answer<R: Wait + Abort>(rt: &R, alloc: Global, row: &Answer) {
+    let (name, reads, printed, end) = *row;
+    let plan = plan_of(rt, alloc, reads, false, &[]);
+    let searched = search_link(rt, alloc, plan, &[], 0);
+    assert_searched(rt, name, &searched, end, printed, ASKED);
+    discard(searched);
 }
 
 #[test]
-fn answers_are_printed(rt: HostRuntime) -> Result<(), Fail> {
-    let alloc = rt.alloc();
-    for (name, reads, printed, end) in ANSWERS {
-        let plan = plan_of(alloc, reads, false, &[])?;
-        let searched = search_link(&rt, alloc, plan, &[], 0)?;
-        assert_searched(&rt, name, &searched, end, printed, ASKED);
+fn answers_are_printed(rt: HostRuntime) {
+    for row in &ANSWERS {
+        check_answer(&rt, rt.alloc(), row);
     }
-    Ok(())
+}
+
+fn joined(alloc: Global, lines: &[&[u8]]) -> Result<Vec<u8>, NoMemory> {
+    let mut text = Vec::new(alloc);
+    for line in lines {
+        text.extend_from_slice(line)?;
+    }
+    Ok(text)
+}
+
+fn check_following<R: Wait + Abort>(rt: &R, alloc: Global, row: &Following) {
+    let (name, reads, count, lines, written, end) = *row;
+    let printed = joined(alloc, lines).expect(rt, "lines");
+    let plan = plan_of(rt, alloc, reads, false, &[]);
+    let searched = search_link(rt, alloc, plan, &[], count);
+    assert_searched(rt, name, &searched, end, &printed, written);
+    discard(searched);
 }
 
 #[test]
-fn searches_are_followed(rt: HostRuntime) -> Result<(), Fail> {
-    let alloc = rt.alloc();
-    for (name, reads, count, lines, written, end) in FOLLOWED {
-        let plan = plan_of(alloc, reads, false, &[])?;
-        let searched = search_link(&rt, alloc, plan, &[], count)?;
-        let mut printed = Vec::new(alloc);
-        for line in lines {
-            printed.extend_from_slice(line)?;
-        }
-        assert_searched(&rt, name, &searched, end, &printed, written);
+fn searches_are_followed(rt: HostRuntime) {
+    for row in &FOLLOWED {
+        check_following(&rt, rt.alloc(), row);
     }
-    Ok(())
+}
+
+fn check_failing<R: Wait + Abort>(rt: &R, alloc: Global, row: &Failing) {
+    let (name, reads, failing, unprinted, count, printed, written, end) = *row;
+    let plan = plan_of(rt, alloc, reads, true, failing);
+    let searched = search_link(rt, alloc, plan, unprinted, count);
+    assert_searched(rt, name, &searched, end, printed, written);
+    discard(searched);
 }
 
 #[test]
-fn calls_fail(rt: HostRuntime) -> Result<(), Fail> {
-    let alloc = rt.alloc();
-    for (name, reads, failing, unprinted, count, printed, written, end) in FAILING {
-        let plan = plan_of(alloc, reads, true, failing)?;
-        let searched = search_link(&rt, alloc, plan, unprinted, count)?;
-        assert_searched(&rt, name, &searched, end, printed, written);
+fn calls_fail(rt: HostRuntime) {
+    for row in &FAILING {
+        check_failing(&rt, rt.alloc(), row);
     }
-    Ok(())
 }
 
 /// The address is asked once, and nothing is printed.
 #[test]
-fn no_link_comes(rt: HostRuntime) -> Result<(), Fail> {
+fn no_link_comes(rt: HostRuntime) {
     let alloc = rt.alloc();
-    let searched = search_links(&rt, alloc, Vec::new(alloc), &[], 0)?;
+    let searched = search_links(&rt, alloc, Vec::new(alloc), &[], 0);
     assert!(rt; searched.end == SearchEnd::NetFault && searched.printed.bytes().is_empty());
     assert!(rt; searched.net.retired().len() == 1);
     let caller = &searched.net.retired()[0];
     assert!(rt; caller.asked().len() == 1 && caller.hung_up().is_empty());
     assert!(rt; !caller.asked()[0].came);
-    Ok(())
+    discard(searched);
 }

@@ -1,18 +1,19 @@
 //! Replicas over links in memory. The bytes of the links were encoded by hand, after RFC 4511,
 //! RFC 4533 and ITU-T X.690.
 
-ghost use Rattle.std.specs.Prelude.{◌≤◌, IfOk, IfSome};
+ghost use Rattle.std.specs.Prelude.{◌≤◌, IfSome};
 ghost use Rattle.ldap_filter.specs.FilterTree.{depth, tree_of};
 
+use crate::assertions::assert_same;
+use crate::ldap_search_tests::plan_of;
 use dn_names::Dn;
-use ldap_ber::{NoMemory, Octets, discard};
+use ldap_ber::discard;
 use replica_node::{NodeEnd, run_replica};
 use std::alloc::Global;
 use std::process::Abort;
 use std::sync::Wait;
-use std::test::Fail;
 use sync_config::{Config, Upstream};
-use sync_io::{FixedClock, LinkPlan, MemoryDial, Step};
+use sync_io::{FixedClock, MemoryDial, MemoryLink};
 use sync_provider::{Kind, Provider};
 
 /// A configuration with the upstream that is followed.
@@ -122,19 +123,13 @@ const ROWS: [Row; 9] = [
 ];
 
 /// A dialler with a link for each list of pieces.
-fn dial_of(alloc: Global, links: &[&[&[u8]]]) -> Result<MemoryDial, NoMemory> {
+fn dial_of(rt: &impl Abort, alloc: Global, links: &[&[&[u8]]]) -> MemoryDial {
     let mut plans = Vec::new(alloc);
     for pieces in links {
-        let mut steps = Vec::new(alloc);
-        for piece in *pieces {
-            steps.push(Step::Give(Octets::from_slice(alloc, piece)?))?;
-        }
-        plans.push(LinkPlan {
-            steps,
-            failing: Vec::new(alloc),
-        })?;
+        let plan = plan_of(rt, alloc, pieces, false, &[]);
+        plans.push(plan).expect(rt, "a plan");
     }
-    Ok(MemoryDial::new(alloc, plans))
+    MemoryDial::new(alloc, plans)
 }
 
 /// The upstream of a configuration, if it has one.
@@ -146,14 +141,16 @@ fn upstream_in(config: Config) -> Option<Upstream>
 }
 
 /// The upstream that is followed.
-fn upstream_of(alloc: Global) -> Result<Upstream, Fail>
-    ensures { IfOk result (λ upstream. depth (tree_of upstream.spec.filter) ≤ 32) }
+fn upstream_of(rt: &impl Abort, alloc: Global) -> Upstream
+    ensures { depth (tree_of result.spec.filter) ≤ 32 }
 {
-    let config = Config::read(alloc, CONFIG)?;
-    match upstream_in(config) {
-        Some(upstream) => Ok(upstream),
-        None => Err(Fail::from("there is no upstream")),
-    }
+    let Ok(config) = Config::read(alloc, CONFIG) else {
+        panic!(rt; "there is no configuration")
+    };
+    let Some(upstream) = upstream_in(config) else {
+        panic!(rt; "there is no upstream")
+    };
+    upstream
 }
 
 /// Whether these bytes stand among the others.
@@ -170,50 +167,55 @@ fn contains(bytes: &[u8], part: &[u8]) -> bool {
 /// which of the requests on them had the cookie.
 fn assert_dialled(rt: &impl Abort, dial: &MemoryDial, row: &Row) {
     let name = row.name;
-    assert!(rt; dial.asked().len() as u64 == row.rounds, "{name}: asked");
+    assert_same(rt, name, &(dial.asked().len() as u64), &row.rounds);
     for attempt in dial.asked() {
-        assert!(rt; attempt.address.as_str() == "b", "{name}: address");
+        assert_same(rt, name, &attempt.address.as_str(), &"b");
     }
-    assert!(rt;
-        dial.hung_up().len() == row.with_cookie.len(),
-        "{name}: hung up"
-    );
-    for (number, link) in dial.hung_up().iter().enumerate() {
-        let found = contains(link.bytes_held(), COOKIE);
-        if let Some(wanted) = row.with_cookie.get(number) {
-            assert!(rt; found == *wanted, "{name}: request {number}");
-        }
+    assert_requests(rt, dial.hung_up(), row);
+}
+
+fn assert_requests(rt: &impl Abort, links: &[MemoryLink], row: &Row) {
+    let name = row.name;
+    assert_same(rt, name, &links.len(), &row.with_cookie.len());
+    for (link, wanted) in links.iter().zip(row.with_cookie) {
+        assert_same(rt, name, &contains(link.bytes_held(), COOKIE), wanted);
     }
 }
 
-fn assert_follows<R: Wait + Abort>(rt: &R, alloc: Global, row: &Row) -> Result<(), Fail> {
-    let upstream = upstream_of(alloc)?;
-    let mut dial = dial_of(alloc, row.links)?;
-    let mut replica = Provider::new(alloc, Dn::empty(alloc), 0, 1, Kind::Replica)?;
+// Nothing is left early while an upstream, a replica or a dialler stands, whose drop would be
+// written out there: what is missing ends the test.
+
+/// How a replica follows the upstream over these connections, how many writes it has in the end,
+/// and how many entries.
+fn followed<R: Wait + Abort>(
+    rt: &R,
+    alloc: Global,
+    dial: &mut MemoryDial,
+    rounds: u64,
+) -> (NodeEnd, u64, usize) {
+    let replica = Provider::new(alloc, Dn::empty(alloc), 0, 1, Kind::Replica);
+    let mut replica = replica.expect(rt, "a replica");
+    let upstream = upstream_of(rt, alloc);
     let clock = FixedClock { micros: 0 };
-    let end = run_replica(
-        rt,
-        alloc,
-        &mut replica,
-        &mut dial,
-        clock,
-        &upstream,
-        row.rounds,
-    );
+    let end = run_replica(rt, alloc, &mut replica, dial, clock, &upstream, rounds);
+    discard(upstream);
     let (writes, entries) = (replica.writes(), replica.tree().len());
     discard(replica);
-    let name = row.name;
-    assert!(rt; end == NodeEnd::Rounds(row.commits), "{name}: {end:?}");
-    assert!(rt; writes == row.commits, "{name}: {writes} writes");
-    assert!(rt; entries == row.entries, "{name}: {entries} entries");
+    (end, writes, entries)
+}
+
+fn assert_follows<R: Wait + Abort>(rt: &R, alloc: Global, row: &Row) {
+    let mut dial = dial_of(rt, alloc, row.links);
+    let found = followed(rt, alloc, &mut dial, row.rounds);
+    let wanted = (NodeEnd::Rounds(row.commits), row.commits, row.entries);
+    assert_same(rt, row.name, &found, &wanted);
     assert_dialled(rt, &dial, row);
-    Ok(())
+    discard(dial);
 }
 
 #[test]
-fn replicas_follow_their_upstream(rt: HostRuntime) -> Result<(), Fail> {
+fn replicas_follow_their_upstream(rt: HostRuntime) {
     for row in &ROWS {
-        assert_follows(&rt, rt.alloc(), row)?;
+        assert_follows(&rt, rt.alloc(), row);
     }
-    Ok(())
 }

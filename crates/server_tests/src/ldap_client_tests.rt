@@ -3,13 +3,13 @@
 
 ghost use Rattle.ldap_messages.specs.Whole.{HasSpelling, message_value};
 
+use crate::assertions::assert_same;
 use ldap_ber::{NoMemory, Octets, discard};
 use ldap_client::{Client, ClientFault};
 use ldap_messages::{ControlList, Message, Protocol};
 use std::alloc::Global;
 use std::process::Abort;
 use std::sync::Wait;
-use std::test::Fail;
 use sync_io::{LinkPlan, MemoryLink, Step};
 
 /// The end of a search with noSuchObject and the message ID 1, and one with success and 2.
@@ -21,7 +21,7 @@ const SUCCESS: &[u8] = b"\x30\x0c\x02\x01\x02\x65\x07\x0a\x01\x00\x04\x00\x04\x0
 const UNBIND: &[u8] = b"\x30\x05\x02\x01\x02\x42\x00";
 
 /// What a read of a link gives.
-#[derive(Clone, Copy, Debug)]
+#[derive(Clone, Copy)]
 enum Part {
     Give(&'static [u8]),
     Quiet,
@@ -29,7 +29,9 @@ enum Part {
 }
 
 /// What reads give, the message IDs of the messages that are given, and the fault after them.
-const LINKS: [(&str, &[Part], &[u32], ClientFault); 8] = [
+type LinkRow = (&'static str, &'static [Part], &'static [u32], ClientFault);
+
+const LINKS: [LinkRow; 8] = [
     ("nothing", &[], &[], ClientFault::EndOfInput),
     (
         "two messages in one piece",
@@ -93,23 +95,28 @@ fn step_of(alloc: Global, part: Part) -> Result<Step, NoMemory> {
     }
 }
 
-/// A client of a link whose reads give these parts, and whose writes with these numbers fail.
-fn client_of(
-    alloc: Global,
-    parts: &[Part],
-    failing: &[u64],
-) -> Result<Client<MemoryLink>, NoMemory> {
+fn steps_of(alloc: Global, parts: &[Part]) -> Result<Vec<Step>, NoMemory> {
     let mut steps = Vec::new(alloc);
     for part in parts {
         steps.push(step_of(alloc, *part)?)?;
     }
+    Ok(steps)
+}
+
+/// A client of a link whose reads give these parts, and whose writes with these numbers fail.
+fn client_of(
+    rt: &impl Abort,
+    alloc: Global,
+    parts: &[Part],
+    failing: &[u64],
+) -> Client<MemoryLink> {
     let plan = LinkPlan {
-        steps,
-        failing: failing.to_vec(alloc)?,
+        steps: steps_of(alloc, parts).expect(rt, "steps"),
+        failing: failing.to_vec(alloc).expect(rt, "writes that fail"),
     };
     match Client::new(alloc, MemoryLink::new(alloc, plan)) {
-        Ok(client) => Ok(client),
-        Err((fault, _)) => Err(fault),
+        Ok(client) => client,
+        Err(_) => panic!(rt; "no client"),
     }
 }
 
@@ -134,20 +141,24 @@ fn assert_given<R: Wait + Abort>(
     fault: ClientFault,
 ) {
     for id in ids {
-        assert!(rt; next_id(rt, client) == Ok(*id), "{name}");
+        assert_same(rt, name, &next_id(rt, client), &Ok(*id));
     }
-    assert!(rt; next_id(rt, client) == Err(fault), "{name}");
-    assert!(rt; next_id(rt, client) == Err(fault), "{name}");
+    assert_same(rt, name, &next_id(rt, client), &Err(fault));
+    assert_same(rt, name, &next_id(rt, client), &Err(fault));
+}
+
+fn check_link<R: Wait + Abort>(rt: &R, alloc: Global, row: &LinkRow) {
+    let (name, parts, ids, fault) = *row;
+    let mut client = client_of(rt, alloc, parts, &[]);
+    assert_given(rt, name, &mut client, ids, fault);
+    discard(client);
 }
 
 #[test]
-fn messages_are_given_in_order(rt: HostRuntime) -> Result<(), Fail> {
-    let alloc = rt.alloc();
-    for (name, parts, ids, fault) in LINKS {
-        let mut client = client_of(alloc, parts, &[])?;
-        assert_given(&rt, name, &mut client, ids, fault);
+fn messages_are_given_in_order(rt: HostRuntime) {
+    for row in &LINKS {
+        check_link(&rt, rt.alloc(), row);
     }
-    Ok(())
 }
 
 #[tactic(auto, unfolding(ldap_messages::specs::Operation::operation_of))]
@@ -161,32 +172,42 @@ fn unbind(alloc: Global) -> Message
     }
 }
 
+/// Asks the unbind.
+fn ask(alloc: Global, client: &mut Client<MemoryLink>) -> Result<(), ClientFault> {
+    let request = unbind(alloc);
+    let asked = client.ask(&request);
+    discard(request);
+    asked
+}
+
+/// Asserts that this was written on the client's link, and this was read of it.
+fn assert_link(rt: &impl Abort, client: Client<MemoryLink>, written: &[u8], read: &[u8]) {
+    let link = client.into_link();
+    assert_same(rt, "written", &link.bytes_held(), &written);
+    assert_same(rt, "read", &link.bytes_read(), &read);
+    discard(link);
+}
+
 /// What is asked is written, and leaves what is read; after a fault nothing is written.
 #[test]
-fn messages_are_written(rt: HostRuntime) -> Result<(), Fail> {
+fn messages_are_written(rt: HostRuntime) {
     let alloc = rt.alloc();
-    let request = unbind(alloc);
-    let mut client = client_of(alloc, &[Part::Give(MISSING)], &[])?;
-    assert!(rt; client.ask(&request) == Ok(()));
-    assert_given(&rt, "a request", &mut client, &[1], ClientFault::EndOfInput);
-    assert!(rt; client.ask(&request) == Err(ClientFault::EndOfInput));
-    let link = client.into_link();
-    assert!(rt; link.bytes_held() == UNBIND && link.bytes_read() == MISSING);
-    discard(request);
-    Ok(())
+    let mut client = client_of(&rt, alloc, &[Part::Give(MISSING)], &[]);
+    assert_same(&rt, "a request", &ask(alloc, &mut client), &Ok(()));
+    let end = ClientFault::EndOfInput;
+    assert_given(&rt, "a request", &mut client, &[1], end);
+    assert_same(&rt, "after it", &ask(alloc, &mut client), &Err(end));
+    assert_link(&rt, client, UNBIND, MISSING);
 }
 
 /// A write that fails is answered from then on, and nothing is read.
 #[test]
-fn a_failed_write_is_answered_again(rt: HostRuntime) -> Result<(), Fail> {
+fn a_failed_write_is_answered_again(rt: HostRuntime) {
     let alloc = rt.alloc();
-    let request = unbind(alloc);
-    let mut client = client_of(alloc, &[Part::Give(MISSING)], &[1])?;
-    assert!(rt; client.ask(&request) == Err(ClientFault::WriteFault));
-    assert!(rt; client.ask(&request) == Err(ClientFault::WriteFault));
-    assert_given(&rt, "a write", &mut client, &[], ClientFault::WriteFault);
-    let link = client.into_link();
-    assert!(rt; link.bytes_held().is_empty() && link.bytes_read().is_empty());
-    discard(request);
-    Ok(())
+    let mut client = client_of(&rt, alloc, &[Part::Give(MISSING)], &[1]);
+    let fault = ClientFault::WriteFault;
+    assert_same(&rt, "a write", &ask(alloc, &mut client), &Err(fault));
+    assert_same(&rt, "again", &ask(alloc, &mut client), &Err(fault));
+    assert_given(&rt, "a write", &mut client, &[], fault);
+    assert_link(&rt, client, b"", b"");
 }
