@@ -283,15 +283,23 @@ fn check_start(rt: &impl Abort, bytes: &[u8], start: &[u8], body: &[u8]) {
 #[test]
 fn lengths_of_elements_in_elements(rt: HostRuntime) {
     for (count, start) in &LENGTHS_IN_ONE {
-        let body = vec![in rt.alloc(); 7_u8; *count].expect(&rt, "memory");
-        let written = in_one(rt.alloc(), &body).expect(&rt, "memory");
-        check_start(&rt, written.as_slice(), start, &body);
+        check_in_one(&rt, rt.alloc(), *count, start);
     }
     for (count, start) in &LENGTHS_IN_FOUR {
-        let body = vec![in rt.alloc(); 7_u8; *count].expect(&rt, "memory");
-        let written = in_four(rt.alloc(), &body).expect(&rt, "memory");
-        check_start(&rt, written.as_slice(), start, &body);
+        check_in_four(&rt, rt.alloc(), *count, start);
     }
+}
+
+fn check_in_one(rt: &impl Abort, alloc: Global, count: usize, start: &[u8]) {
+    let body = vec![in alloc; 7_u8; count].expect(rt, "memory");
+    let written = in_one(alloc, &body).expect(rt, "memory");
+    check_start(rt, written.as_slice(), start, &body);
+}
+
+fn check_in_four(rt: &impl Abort, alloc: Global, count: usize, start: &[u8]) {
+    let body = vec![in alloc; 7_u8; count].expect(rt, "memory");
+    let written = in_four(alloc, &body).expect(rt, "memory");
+    check_start(rt, written.as_slice(), start, &body);
 }
 
 /// The list begins at 5 and ends at 27, and its second element is this.

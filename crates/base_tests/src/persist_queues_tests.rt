@@ -42,7 +42,7 @@ fn a_full_queue_keeps_its_oldest_item(rt: HostRuntime) {
 }
 
 /// An item that is nothing but its weight.
-#[derive(Clone, Copy, Debug, PartialEq)]
+#[derive(Clone, Copy)]
 struct Item {
     weight: u64,
 }

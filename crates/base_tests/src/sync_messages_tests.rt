@@ -64,11 +64,15 @@ fn request_parts(request: &SyncRequest) -> Request<'_> {
 #[test]
 fn requests_both_ways(rt: HostRuntime) {
     for (spelling, wanted) in &REQUESTS {
-        let request = request_of(rt.alloc(), spelling).expect(&rt, "a request");
-        assert_same_of(&rt, spelling, &request_parts(&request), wanted);
-        let written = request.write(rt.alloc()).expect(&rt, "memory");
-        assert_same_of(&rt, spelling, &written.as_slice(), spelling);
+        check_request(&rt, rt.alloc(), spelling, *wanted);
     }
+}
+
+fn check_request(rt: &impl Abort, alloc: Global, spelling: &[u8], wanted: Request<'_>) {
+    let request = request_of(alloc, spelling).expect(rt, "a request");
+    assert_same_of(rt, spelling, &request_parts(&request), &wanted);
+    let written = request.write(alloc).expect(rt, "memory");
+    assert_same_of(rt, spelling, &written.as_slice(), &spelling);
 }
 
 /// States of entries, and what they say.
@@ -106,16 +110,20 @@ fn state_parts(state: &SyncState) -> (State, u128, Option<&[u8]>) {
 #[test]
 fn states_both_ways(rt: HostRuntime) {
     for (spelling, kind, uuid, cookie) in &STATES {
-        let state = state_of(rt.alloc(), spelling).expect(&rt, "a state");
-        assert_same_of(
-            &rt,
-            spelling,
-            &state_parts(&state),
-            &(*kind, *uuid, *cookie),
-        );
-        let written = state.write(rt.alloc()).expect(&rt, "memory");
-        assert_same_of(&rt, spelling, &written.as_slice(), spelling);
+        check_state(&rt, rt.alloc(), spelling, (*kind, *uuid, *cookie));
     }
+}
+
+fn check_state(
+    rt: &impl Abort,
+    alloc: Global,
+    spelling: &[u8],
+    wanted: (State, u128, Option<&[u8]>),
+) {
+    let state = state_of(alloc, spelling).expect(rt, "a state");
+    assert_same_of(rt, spelling, &state_parts(&state), &wanted);
+    let written = state.write(alloc).expect(rt, "memory");
+    assert_same_of(rt, spelling, &written.as_slice(), &spelling);
 }
 
 /// Ends of refreshes, and what they say.
@@ -141,16 +149,15 @@ fn done_parts(done: &SyncDone) -> (Option<&[u8]>, bool) {
 #[test]
 fn dones_both_ways(rt: HostRuntime) {
     for (spelling, cookie, refresh_deletes) in &DONES {
-        let done = done_of(rt.alloc(), spelling).expect(&rt, "an end");
-        assert_same_of(
-            &rt,
-            spelling,
-            &done_parts(&done),
-            &(*cookie, *refresh_deletes),
-        );
-        let written = done.write(rt.alloc()).expect(&rt, "memory");
-        assert_same_of(&rt, spelling, &written.as_slice(), spelling);
+        check_done(&rt, rt.alloc(), spelling, (*cookie, *refresh_deletes));
     }
+}
+
+fn check_done(rt: &impl Abort, alloc: Global, spelling: &[u8], wanted: (Option<&[u8]>, bool)) {
+    let done = done_of(alloc, spelling).expect(rt, "an end");
+    assert_same_of(rt, spelling, &done_parts(&done), &wanted);
+    let written = done.write(alloc).expect(rt, "memory");
+    assert_same_of(rt, spelling, &written.as_slice(), &spelling);
 }
 
 /// The number of a choice, its cookie and its flag.
@@ -235,9 +242,13 @@ fn assert_info(
 fn infos_both_ways(rt: HostRuntime) {
     for (spelling, parts, ids) in &INFOS {
         assert_info(&rt, rt.alloc(), spelling, parts, *ids).expect(&rt, "an info");
-        let written = info_written(rt.alloc(), spelling).expect(&rt, "an info");
-        assert_same_of(&rt, spelling, &written.as_slice(), spelling);
+        check_info(&rt, rt.alloc(), spelling);
     }
+}
+
+fn check_info(rt: &impl Abort, alloc: Global, spelling: &[u8]) {
+    let written = info_written(alloc, spelling).expect(rt, "an info");
+    assert_same_of(rt, spelling, &written.as_slice(), &spelling);
 }
 
 /// Requests that are read and never written, each with what is written in its place.

@@ -3,7 +3,8 @@ ghost use Rattle.turn_cell.specs.Journals.{Every};
 ghost use Rattle.turn_cell.specs.Passes.{cell_id};
 ghost use Rattle.shared_directory.specs.Passes.{IsPassOf};
 
-use crate::asking::{add, count, follow, next, several};
+use crate::answers::answered;
+use crate::asking::{add, count};
 use crate::copies::are_copies;
 use crate::gathering::{Gathered, hand_in, hand_in_four};
 use crate::passing::{closed, last_two, put_back, share};
@@ -11,15 +12,13 @@ use crate::replaying::replays;
 use crate::tasks::{Task, Tried, Work};
 use crate::working::{accepted, rises, work_in_eight, work_in_two};
 use dn_names::Dn;
-use entry_tree::{EntryList, Scope};
+use entry_tree::Scope;
 use ldap_ber::discard;
-use ldap_constants::{COMPARE_FALSE, COMPARE_TRUE};
 use shared_directory::{CloseFault, DirectoryPass, SharedDirectory, journal_seen};
 use std::alloc::Global;
 use std::process::Abort;
 use std::sync::Wait;
-use sync_messages::IdList;
-use sync_provider::{Accepted, CommitFault, Kind, Port, Provider, Reply};
+use sync_provider::{Kind, Port, Provider, Reply};
 
 fn provider(rt: &impl Abort, alloc: Global) -> Provider {
     let suffix = Dn::parse(alloc, b"dc=x").expect(rt, "a suffix");
@@ -76,38 +75,22 @@ fn two_desks_see_one_directory(rt: HostRuntime) {
     assert!(rt; writes == 1);
 }
 
-/// What is done at two desks of one directory.
-#[derive(Clone, Copy)]
-enum DeskWork {
-    Follow,
-    TakeTogether,
-    Compare,
-    Commit,
-}
+// What is done at two desks of one directory stands in rows: which of them is asked, what, and what
+// it answers, as `answered` has it.
 
-fn perform<P: Port>(rt: &impl Abort, alloc: Global, work: DeskWork, one: &mut P, two: &mut P) {
-    match work {
-        DeskWork::Follow => assert_followed(rt, alloc, one, two),
-        DeskWork::TakeTogether => assert_together(rt, alloc, one),
-        DeskWork::Compare => assert_compared(rt, alloc, one),
-        DeskWork::Commit => assert_committed(rt, alloc, one, two),
-    }
-}
-
-/// Asserts that this is done at two desks, and how much the first of them has seen of the journal
-/// then.
+/// Asserts that two desks answer so, and how much the first of them has seen of the journal then.
 fn assert_at_desks<R: Wait + Abort>(
     rt: &R,
     alloc: Global,
     provider: Provider,
-    work: DeskWork,
+    rows: &str,
     seen: u64,
 ) {
     let (directory, mut passes) = share(rt, alloc, provider, 2);
     let (first, second) = last_two(&directory, &mut passes);
     let mut one = directory.desk(rt, first);
     let mut two = directory.desk(rt, second);
-    perform(rt, alloc, work, &mut one, &mut two);
+    assert_rows(rt, alloc, &mut one, &mut two, rows);
     assert!(rt; journal_seen(&one) == seen);
     discard(one);
     discard(two);
@@ -115,65 +98,80 @@ fn assert_at_desks<R: Wait + Abort>(
     discard(directory);
 }
 
-fn assert_added<P: Port>(rt: &impl Abort, alloc: Global, port: &mut P, unit: &str, number: u64) {
-    let reply = add(alloc, port, unit);
-    assert!(rt; reply == Some(Reply { code: 0, number }));
+fn assert_rows<P: Port>(rt: &impl Abort, alloc: Global, one: &mut P, two: &mut P, rows: &str) {
+    for row in rows.lines() {
+        assert_row(rt, alloc, one, two, row);
+    }
 }
 
-fn assert_followed<P: Port>(rt: &impl Abort, alloc: Global, one: &mut P, two: &mut P) {
-    assert_added(rt, alloc, one, "", 1);
-    assert!(rt; follow(alloc, one) == Some(Accepted::Opened(1, 1)));
-    assert!(rt; next(two, 1) == Some('?') && !two.drop_search(1));
-    assert!(rt; next(one, 1) == Some('m') && next(one, 1) == Some('m'));
-    assert!(rt; next(one, 1) == Some('-'));
-    assert_added(rt, alloc, two, "a", 2);
-    assert!(rt; next(one, 1) == Some('m') && next(one, 1) == Some('-'));
-    assert!(rt; one.drop_search(1) && next(one, 1) == Some('?'));
+fn assert_row<P: Port>(rt: &impl Abort, alloc: Global, one: &mut P, two: &mut P, row: &str) {
+    let (asked, wanted) = row.split_once(" => ").expect(rt, row);
+    let (desk, call) = asked.split_once(' ').expect(rt, row);
+    let answer = match desk {
+        "1" => answered(alloc, one, call),
+        _ => answered(alloc, two, call),
+    };
+    let answer = answer.expect(rt, row);
+    assert!(rt; answer.as_str() == wanted, "{row}: {answer}");
 }
+
+const FOLLOWED: &str = "\
+1 add => Reply { code: 0, number: 1 }
+1 follow => Opened(1, 1)
+2 next 1 => '?'
+2 drop 1 => false
+1 next 1 => 'm'
+1 next 1 => 'm'
+1 next 1 => '-'
+2 add a => Reply { code: 0, number: 2 }
+1 next 1 => 'm'
+1 next 1 => '-'
+1 drop 1 => true
+1 next 1 => '?'
+";
 
 /// A desk follows the searches that it opened itself, and no other desk does.
 #[test]
 fn a_search_is_of_the_desk_that_opened_it(rt: HostRuntime) {
     let root = provider(&rt, rt.alloc());
-    assert_at_desks(&rt, rt.alloc(), root, DeskWork::Follow, 4);
+    assert_at_desks(&rt, rt.alloc(), root, FOLLOWED, 4);
 }
 
-fn assert_together<P: Port>(rt: &impl Abort, alloc: Global, port: &mut P) {
-    assert_added(rt, alloc, port, "", 1);
-    assert!(rt; follow(alloc, port) == Some(Accepted::Opened(1, 1)));
-    assert!(rt; several(alloc, port, 1) == Some((2, '-')));
-    assert!(rt; several(alloc, port, 1) == Some((0, '-')));
-    assert!(rt; several(alloc, port, 2) == Some((0, '?')));
-}
+const TOGETHER: &str = "\
+1 add => Reply { code: 0, number: 1 }
+1 follow => Opened(1, 1)
+1 several 1 => (2, '-')
+1 several 1 => (0, '-')
+1 several 2 => (0, '?')
+";
 
 /// What is pending at a desk comes in one turn.
 #[test]
 fn messages_come_together_at_a_desk(rt: HostRuntime) {
     let root = provider(&rt, rt.alloc());
-    assert_at_desks(&rt, rt.alloc(), root, DeskWork::TakeTogether, 2);
+    assert_at_desks(&rt, rt.alloc(), root, TOGETHER, 2);
 }
 
-fn assert_compared<P: Port>(rt: &impl Abort, alloc: Global, port: &mut P) {
-    assert_added(rt, alloc, port, "", 1);
-    let name = Dn::parse(alloc, b"dc=x").expect(rt, "a name");
-    assert!(rt; port.compare(&name, b"o", b"x") == COMPARE_TRUE);
-    assert!(rt; port.compare(&name, b"o", b"y") == COMPARE_FALSE);
-    let committed = port.commit(EntryList::new(alloc), IdList::new(alloc), 0);
-    assert!(rt; committed == Err(CommitFault::NotAReplica) && port.writes() == 1);
-}
+const COMPARED: &str = "\
+1 add => Reply { code: 0, number: 1 }
+1 compare x => true
+1 compare y => false
+1 commit => Err(NotAReplica)
+1 writes => 1
+";
 
 /// What changes nothing is answered at a desk, and a root takes no commit.
 #[test]
 fn a_desk_compares_and_counts(rt: HostRuntime) {
     let root = provider(&rt, rt.alloc());
-    assert_at_desks(&rt, rt.alloc(), root, DeskWork::Compare, 1);
+    assert_at_desks(&rt, rt.alloc(), root, COMPARED, 1);
 }
 
-fn assert_committed<P: Port>(rt: &impl Abort, alloc: Global, one: &mut P, two: &mut P) {
-    let first = one.commit(EntryList::new(alloc), IdList::new(alloc), 0);
-    let second = two.commit(EntryList::new(alloc), IdList::new(alloc), 0);
-    assert!(rt; first == Ok(1) && second == Ok(2) && one.writes() == 2);
-}
+const COMMITTED: &str = "\
+1 commit => Ok(1)
+2 commit => Ok(2)
+1 writes => 2
+";
 
 /// Desks of a replica count each other's commits.
 #[test]
@@ -181,7 +179,7 @@ fn commits_of_two_desks_are_counted_together(rt: HostRuntime) {
     let suffix = Dn::parse(rt.alloc(), b"").expect(&rt, "a suffix");
     let replica = Provider::new(rt.alloc(), suffix, 1, 1, Kind::Replica);
     let replica = replica.expect(&rt, "a replica");
-    assert_at_desks(&rt, rt.alloc(), replica, DeskWork::Commit, 2);
+    assert_at_desks(&rt, rt.alloc(), replica, COMMITTED, 2);
 }
 
 /// Two threads each add fifty units below `dc=x`. All are accepted, and each thread gets rising

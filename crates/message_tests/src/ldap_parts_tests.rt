@@ -97,13 +97,24 @@ fn read_numbers(reader: &mut Reader) -> Result<Component, ComponentFault> {
 fn read_next(alloc: Global, kind: Kind, reader: &mut Reader) -> Result<Component, ComponentFault> {
     match kind {
         Kind::Assertion => read_assertion(alloc, reader),
+        Kind::Names => read_names(alloc, reader),
+        Kind::Numbers => read_numbers(reader),
+        _ => read_listed(alloc, kind, reader),
+    }
+}
+
+/// A component that one reader of the library gives.
+fn read_listed(
+    alloc: Global,
+    kind: Kind,
+    reader: &mut Reader,
+) -> Result<Component, ComponentFault> {
+    match kind {
         Kind::Attribute => Ok(Component::Attribute(attribute_of(alloc, reader)?)),
         Kind::Attributes => Ok(Component::Attributes(attributes_of(alloc, reader)?)),
         Kind::Controls => Ok(Component::Controls(controls_of(alloc, reader)?)),
         Kind::Filter => Ok(Component::Filter(filter_of(alloc, reader, 32)?)),
-        Kind::Names => read_names(alloc, reader),
-        Kind::Numbers => read_numbers(reader),
-        Kind::Strings => Ok(Component::Strings(strings_of(alloc, reader, 0x30)?)),
+        _ => Ok(Component::Strings(strings_of(alloc, reader, 0x30)?)),
     }
 }
 
@@ -152,16 +163,24 @@ fn reported(alloc: Global, component: &Component) -> Result<Vec<u8>, Fail> {
 
 fn report(alloc: Global, text: &mut Vec<u8>, component: &Component) -> Result<(), Fail> {
     match component {
-        Component::Assertion(name, value) => Ok(report_assertion(text, name, value)?),
-        Component::Attribute(attribute) => Ok(report_attribute(text, attribute)?),
-        Component::Attributes(attributes) => Ok(report_attributes(text, attributes.list())?),
-        Component::Controls(controls) => Ok(report_controls(text, controls.list())?),
         Component::Filter(filter) => report_filter(alloc, text, filter),
-        Component::Names(name, superior) => Ok(report_names(text, name, superior)?),
+        _ => Ok(report_other(alloc, text, component)?),
+    }
+}
+
+/// The same of a component that is no filter.
+fn report_other(alloc: Global, text: &mut Vec<u8>, component: &Component) -> Result<(), NoMemory> {
+    match component {
+        Component::Assertion(name, value) => report_assertion(text, name, value),
+        Component::Attribute(attribute) => report_attribute(text, attribute),
+        Component::Attributes(attributes) => report_attributes(text, attributes.list()),
+        Component::Controls(controls) => report_controls(text, controls.list()),
+        Component::Filter(_) => Ok(()),
+        Component::Names(name, superior) => report_names(text, name, superior),
         Component::Numbers(code, version, truth) => {
-            Ok(report_numbers(alloc, text, *code, *version, *truth)?)
+            report_numbers(alloc, text, *code, *version, *truth)
         }
-        Component::Strings(strings) => Ok(report_strings(text, strings.list())?),
+        Component::Strings(strings) => report_strings(text, strings.list()),
     }
 }
 

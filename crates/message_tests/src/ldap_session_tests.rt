@@ -44,55 +44,77 @@ fn bind_reported(
     version: u8,
     name: &Octets,
     authentication: &Authentication,
-) -> Result<String, Fail> {
+) -> Result<String, NoMemory> {
     let (kind, given) = match authentication {
         Authentication::Simple(password) => ("simple", password),
         Authentication::Sasl(body) => ("sasl", body),
     };
     let (name, given) = (text_of(name), given.as_slice());
-    Ok(format!(in alloc; "bind {version} {name} {kind} {given:?}")?)
+    format!(in alloc; "bind {version} {name} {kind} {given:?}")
 }
 
 fn search_reported(alloc: Global, search: &SearchParameters) -> Result<String, Fail> {
+    let mut text = head_reported(alloc, search)?;
+    push_selectors(&mut text, search.selectors.list())?;
+    Ok(text)
+}
+
+/// What is reported of a search but for its selectors.
+fn head_reported(alloc: Global, search: &SearchParameters) -> Result<String, Fail> {
     let filter = search.filter.write_text(alloc)?;
-    let mut text = format!(in alloc;
+    Ok(format!(in alloc;
         "search {} {:?} {} {} {}",
         text_of(&search.base),
         search.scope,
         search.size_limit,
         search.types_only,
         text_of(&filter)
-    )?;
-    for selector in search.selectors.list() {
-        text.push_str(" ")?;
-        text.push_str(text_of(selector))?;
-    }
-    Ok(text)
+    )?)
 }
 
-fn extended_reported(alloc: Global, name: &Octets, value: &Option<Octets>) -> Result<String, Fail> {
+fn push_selectors(text: &mut String, selectors: &[Octets]) -> Result<(), NoMemory> {
+    for selector in selectors {
+        text.push(' ')?;
+        text.push_str(text_of(selector))?;
+    }
+    Ok(())
+}
+
+fn extended_reported(
+    alloc: Global,
+    name: &Octets,
+    value: &Option<Octets>,
+) -> Result<String, NoMemory> {
     let value = match value {
         Some(value) => text_of(value),
         None => "none",
     };
-    Ok(format!(in alloc; "extended {} {value}", text_of(name))?)
+    format!(in alloc; "extended {} {value}", text_of(name))
 }
 
 fn reported(alloc: Global, request: &Request) -> Result<String, Fail> {
     match request {
+        Request::Search(search) => search_reported(alloc, search),
+        _ => Ok(other_reported(alloc, request)?),
+    }
+}
+
+/// The same of what is no search.
+fn other_reported(alloc: Global, request: &Request) -> Result<String, NoMemory> {
+    match request {
         Request::Bind(version, name, authentication) => {
             bind_reported(alloc, *version, name, authentication)
         }
-        Request::Unbind => Ok(String::from_str(alloc, "unbind")?),
-        Request::Write(change) => Ok(String::from_str(alloc, change_name(change))?),
+        Request::Unbind => String::from_str(alloc, "unbind"),
+        Request::Write(change) => String::from_str(alloc, change_name(change)),
         Request::Compare(entry, name, value) => {
             let (entry, name, value) = (text_of(entry), text_of(name), text_of(value));
-            Ok(format!(in alloc; "compare {entry} {name} {value}")?)
+            format!(in alloc; "compare {entry} {name} {value}")
         }
-        Request::Search(search) => search_reported(alloc, search),
-        Request::Abandon(target) => Ok(format!(in alloc; "abandon {target}")?),
+        Request::Search(_) => String::from_str(alloc, "search"),
+        Request::Abandon(target) => format!(in alloc; "abandon {target}"),
         Request::Extended(name, value) => extended_reported(alloc, name, value),
-        Request::Response => Ok(String::from_str(alloc, "response")?),
+        Request::Response => String::from_str(alloc, "response"),
     }
 }
 
@@ -183,22 +205,31 @@ fn requests_by_their_kinds(rt: HostRuntime) -> Result<(), Fail> {
 /// as the configured name.
 type Bind = (u8, &'static str, &'static str, u32, bool);
 
-fn assert_binds(
-    rt: &impl Abort,
+fn assert_binds(rt: &impl Abort, alloc: Global, access: &Access, binds: &[Bind]) {
+    for bind in binds {
+        assert_bind(rt, alloc, access, bind);
+    }
+}
+
+fn assert_bind(rt: &impl Abort, alloc: Global, access: &Access, bind: &Bind) {
+    let (version, name, password, code, bound) = *bind;
+    let found = bound_by(alloc, access, version, name, password).expect(rt, name);
+    assert_same(rt, name, &found, &(code, bound));
+}
+
+/// The code of a simple bind, and whether the session is then bound as the configured name.
+fn bound_by(
     alloc: Global,
     access: &Access,
-    binds: &[Bind],
-) -> Result<(), NoMemory> {
-    for (version, name, password, code, bound) in binds {
-        let row = *name;
-        let name = Octets::from_slice(alloc, row.as_bytes())?;
-        let password = Octets::from_slice(alloc, password.as_bytes())?;
-        let authentication = Authentication::Simple(password);
-        let found = bind_code(alloc, access, *version, &name, &authentication)?;
-        assert_same(rt, row, &found, code);
-        assert_same(rt, row, &binds_as(found, &authentication), bound);
-    }
-    Ok(())
+    version: u8,
+    name: &str,
+    password: &str,
+) -> Result<(u32, bool), NoMemory> {
+    let name = Octets::from_slice(alloc, name.as_bytes())?;
+    let password = Octets::from_slice(alloc, password.as_bytes())?;
+    let authentication = Authentication::Simple(password);
+    let code = bind_code(alloc, access, version, &name, &authentication)?;
+    Ok((code, binds_as(code, &authentication)))
 }
 
 /// Binds where `cn=admin,dc=x` is configured, with the password `secret`.
@@ -236,46 +267,56 @@ const EMPTY_PASSWORD: [Bind; 2] = [
     (3, "cn=admin,dc=x", "secret", 49, false),
 ];
 
-fn named(alloc: Global, name: &[u8], password: &[u8]) -> Result<Access, Fail> {
-    let name = Dn::parse(alloc, name)?;
-    Ok(Access::Named(name, Octets::from_slice(alloc, password)?))
+fn named(rt: &impl Abort, alloc: Global, name: &[u8], password: &[u8]) -> Access {
+    let name = Dn::parse(alloc, name).expect(rt, "a name");
+    Access::Named(
+        name,
+        Octets::from_slice(alloc, password).expect(rt, "a password"),
+    )
+}
+
+fn assert_named(rt: &impl Abort, alloc: Global, name: &[u8], password: &[u8], binds: &[Bind]) {
+    let access = named(rt, alloc, name, password);
+    assert_binds(rt, alloc, &access, binds);
+    discard(access);
 }
 
 #[test]
-fn simple_binds(rt: HostRuntime) -> Result<(), Fail> {
+fn simple_binds(rt: HostRuntime) {
     let alloc = rt.alloc();
-    assert_binds(&rt, alloc, &Access::Free, &FREE)?;
-    let access = named(alloc, b"cn=admin,dc=x", b"secret")?;
-    assert_binds(&rt, alloc, &access, &NAMED)?;
-    let access = named(alloc, b"", b"secret")?;
-    assert_binds(&rt, alloc, &access, &EMPTY_NAME)?;
-    let access = named(alloc, b"cn=admin,dc=x", b"")?;
-    assert_binds(&rt, alloc, &access, &EMPTY_PASSWORD)?;
-    Ok(())
+    assert_binds(&rt, alloc, &Access::Free, &FREE);
+    assert_named(&rt, alloc, b"cn=admin,dc=x", b"secret", &NAMED);
+    assert_named(&rt, alloc, b"", b"secret", &EMPTY_NAME);
+    assert_named(&rt, alloc, b"cn=admin,dc=x", b"", &EMPTY_PASSWORD);
 }
 
+/// The codes of SASL binds of the versions 3 and 2, and whether a session is bound by one that has
+/// the code 0.
 #[test]
-fn other_binds(rt: HostRuntime) -> Result<(), Fail> {
-    let access = named(rt.alloc(), b"cn=admin,dc=x", b"secret")?;
-    let name = Octets::from_slice(rt.alloc(), b"cn=admin,dc=x")?;
-    let body = Octets::from_slice(rt.alloc(), b"\x04\x05PLAIN")?;
-    let authentication = Authentication::Sasl(body);
-    let code = bind_code(rt.alloc(), &access, 3, &name, &authentication)?;
-    assert_same(&rt, "sasl", &code, &7);
-    let code = bind_code(rt.alloc(), &access, 2, &name, &authentication)?;
-    assert_same(&rt, "sasl of version 2", &code, &2);
-    assert_same(&rt, "sasl", &binds_as(0, &authentication), &false);
-    Ok(())
+fn other_binds(rt: HostRuntime) {
+    let access = named(&rt, rt.alloc(), b"cn=admin,dc=x", b"secret");
+    let name = Octets::from_slice(rt.alloc(), b"cn=admin,dc=x").expect(&rt, "a name");
+    let body = Octets::from_slice(rt.alloc(), b"\x04\x05PLAIN").expect(&rt, "a body");
+    let sasl = Authentication::Sasl(body);
+    let third = bind_code(rt.alloc(), &access, 3, &name, &sasl).expect(&rt, "memory");
+    let second = bind_code(rt.alloc(), &access, 2, &name, &sasl).expect(&rt, "memory");
+    let is_bound = binds_as(0, &sasl);
+    discard(sasl);
+    discard(access);
+    assert_same(&rt, "sasl", &(third, second, is_bound), &(7, 2, false));
 }
 
+/// Whether a session may write that is bound as the configured name, and one that is not.
 #[test]
-fn writers(rt: HostRuntime) -> Result<(), Fail> {
-    let access = named(rt.alloc(), b"cn=admin,dc=x", b"secret")?;
-    assert_same(&rt, "named, bound", &may_write(&access, true), &true);
-    assert_same(&rt, "named", &may_write(&access, false), &false);
-    assert_same(&rt, "free, bound", &may_write(&Access::Free, true), &true);
-    assert_same(&rt, "free", &may_write(&Access::Free, false), &true);
-    Ok(())
+fn writers(rt: HostRuntime) {
+    let access = named(&rt, rt.alloc(), b"cn=admin,dc=x", b"secret");
+    let found = (may_write(&access, true), may_write(&access, false));
+    discard(access);
+    assert_same(&rt, "named", &found, &(true, false));
+    let access = Access::Free;
+    let found = (may_write(&access, true), may_write(&access, false));
+    discard(access);
+    assert_same(&rt, "free", &found, &(true, true));
 }
 
 /// Names of extended operations, and whether they are Cancel.
@@ -305,18 +346,26 @@ const TARGETS: [(&[u8], Option<i64>); 13] = [
     (b"", None),
 ];
 
+fn is_cancel(alloc: Global, name: &[u8]) -> Result<bool, NoMemory> {
+    Ok(cancels(&Octets::from_slice(alloc, name)?))
+}
+
+fn target_in(alloc: Global, value: &[u8]) -> Result<Option<i64>, NoMemory> {
+    target_of(&Some(Octets::from_slice(alloc, value)?))
+}
+
 #[test]
-fn cancels_and_their_targets(rt: HostRuntime) -> Result<(), Fail> {
+fn cancels_and_their_targets(rt: HostRuntime) {
     for (name, wanted) in &NAMES {
-        let octets = Octets::from_slice(rt.alloc(), name)?;
-        assert_same_of(&rt, name, &cancels(&octets), wanted);
+        let found = is_cancel(rt.alloc(), name).expect(&rt, "memory");
+        assert_same_of(&rt, name, &found, wanted);
     }
     for (value, wanted) in &TARGETS {
-        let octets = Octets::from_slice(rt.alloc(), value)?;
-        assert_same_of(&rt, value, &target_of(&Some(octets))?, wanted);
+        let found = target_in(rt.alloc(), value).expect(&rt, "memory");
+        assert_same_of(&rt, value, &found, wanted);
     }
-    assert_same(&rt, "no value", &target_of(&None)?, &None);
-    Ok(())
+    let found = target_of(&None).expect(&rt, "memory");
+    assert_same(&rt, "no value", &found, &None);
 }
 
 const MANAGE_DSA_IT: &[u8] = b"2.16.840.1.113730.3.4.2";
@@ -340,14 +389,19 @@ const CONTROLLED: [Controlled; 11] = [
     (SEARCH, &[(b"1.3.6.1.4.1.4203.1.9.1.2", true)], true),
 ];
 
+fn control(alloc: Global, name: &[u8], critical: bool) -> Result<Control, NoMemory> {
+    let name = Octets::from_slice(alloc, name)?;
+    Ok(Control {
+        name,
+        critical,
+        value: None,
+    })
+}
+
 fn controls_of(alloc: Global, parts: &[(&[u8], bool)]) -> Result<ControlList, NoMemory> {
     let mut controls = ControlList::new(alloc);
     for (name, critical) in parts {
-        controls.push(Control {
-            name: Octets::from_slice(alloc, name)?,
-            critical: *critical,
-            value: None,
-        })?;
+        controls.push(control(alloc, name, *critical)?)?;
     }
     Ok(controls)
 }
@@ -359,12 +413,17 @@ fn is_refused(alloc: Global, bytes: &[u8], controls: &[Control]) -> Result<bool,
     Ok(is_refused)
 }
 
+fn assert_refused(rt: &impl Abort, alloc: Global, row: &Controlled) {
+    let (bytes, parts, wanted) = *row;
+    let controls = controls_of(alloc, parts).expect(rt, "memory");
+    let found = is_refused(alloc, bytes, controls.list());
+    discard(controls);
+    assert_same_of(rt, bytes, &found, &Ok(wanted));
+}
+
 #[test]
-fn critical_controls(rt: HostRuntime) -> Result<(), Fail> {
-    for (bytes, parts, wanted) in &CONTROLLED {
-        let controls = controls_of(rt.alloc(), parts)?;
-        let found = is_refused(rt.alloc(), bytes, controls.list())?;
-        assert_same_of(&rt, bytes, &found, wanted);
+fn critical_controls(rt: HostRuntime) {
+    for row in &CONTROLLED {
+        assert_refused(&rt, rt.alloc(), row);
     }
-    Ok(())
 }

@@ -1,6 +1,6 @@
 //! A copy of what a search selects, in whole lists (RFC 4533, sections 3.3 and 3.4).
 use entry_tree::Entry;
-use ldap_ber::{NoMemory, Octets};
+use ldap_ber::{NoMemory, Octets, discard};
 use ldap_constants::{E_SYNC_REFRESH_REQUIRED, SUCCESS};
 use ldap_messages::Message;
 use std::alloc::{AllocError, Global};
@@ -11,6 +11,13 @@ use sync_wire::{DecodeFault, SyncEvent, decode};
 /// The name of the entry, as it is written.
 pub fn name_of(entry: &Entry) -> Result<Octets, NoMemory> {
     entry.dn.write()
+}
+
+fn slice_of(cookie: &Option<Octets>) -> Option<&[u8]> {
+    match cookie {
+        Some(cookie) => Some(cookie.as_slice()),
+        None => None,
+    }
 }
 
 /// What came of a message.
@@ -80,7 +87,11 @@ impl PlainCopy {
         let mut answer = Answer::Refused;
         if self.session == Some(message.id) {
             match decode(alloc, message, self.refreshed) {
-                Ok(decoded) => answer = self.take_decoded(alloc, decoded)?,
+                Ok(decoded) => {
+                    let taken = self.take_decoded(alloc, &decoded);
+                    discard(decoded);
+                    answer = taken?;
+                }
                 Err(DecodeFault::NoMemory) => return Err(AllocError),
                 Err(_) => {}
             }
@@ -91,38 +102,47 @@ impl PlainCopy {
         Ok(answer)
     }
 
-    fn take_decoded(&mut self, alloc: Global, decoded: SyncEvent) -> Result<Answer, NoMemory> {
+    fn take_decoded(&mut self, alloc: Global, decoded: &SyncEvent) -> Result<Answer, NoMemory> {
         match decoded {
             SyncEvent::AddOrModify(entry, cookie) => {
-                self.put(alloc, &entry)?;
-                self.changed(alloc, cookie)
+                self.put(alloc, entry)?;
+                self.changed(alloc, slice_of(cookie))
             }
             SyncEvent::Delete(uuid, cookie) => {
-                self.drop_each(&[uuid])?;
-                self.changed(alloc, cookie)
+                self.drop_each(&[*uuid])?;
+                self.changed(alloc, slice_of(cookie))
             }
-            SyncEvent::Present(uuid) => self.name(&[uuid]),
+            SyncEvent::Present(uuid) => self.name(&[*uuid]),
             SyncEvent::IdSet {
-                deletes: false,
-                uuids,
-                ..
-            } => self.name(uuids.list()),
-            SyncEvent::IdSet {
-                deletes: true,
+                deletes,
                 uuids,
                 cookie,
-            } => {
-                self.drop_each(uuids.list())?;
-                self.changed(alloc, cookie)
+            } => self.take_set(alloc, *deletes, uuids.list(), slice_of(cookie)),
+            SyncEvent::NewCookie(cookie) => self.changed(alloc, Some(cookie.as_slice())),
+            SyncEvent::RefreshDelete { done, cookie } => {
+                self.end_phase(alloc, true, *done, slice_of(cookie))
             }
-            SyncEvent::NewCookie(cookie) => self.changed(alloc, Some(cookie)),
-            SyncEvent::RefreshDelete { done, cookie } => self.end_phase(alloc, true, done, cookie),
-            SyncEvent::RefreshPresent { done, cookie } => self.end_phase(
-                alloc, false, done, cookie,
-            ),
-            SyncEvent::Done { code, control } => self.end_search(alloc, code, control),
+            SyncEvent::RefreshPresent { done, cookie } => {
+                self.end_phase(alloc, false, *done, slice_of(cookie))
+            }
+            SyncEvent::Done { code, control } => self.end_search(alloc, *code, control),
             SyncEvent::Ignored => Ok(Answer::Staged),
         }
+    }
+
+    /// Takes a set of identities that are deleted, or else present.
+    fn take_set(
+        &mut self,
+        alloc: Global,
+        deletes: bool,
+        uuids: &[u128],
+        cookie: Option<&[u8]>,
+    ) -> Result<Answer, NoMemory> {
+        if !deletes {
+            return self.name(uuids);
+        }
+        self.drop_each(uuids)?;
+        self.changed(alloc, cookie)
     }
 
     fn put(&mut self, alloc: Global, entry: &Entry) -> Result<(), NoMemory> {
@@ -139,7 +159,7 @@ impl PlainCopy {
     }
 
     /// After the refresh a cookie ends a group of changes; before its end it is of no use.
-    fn changed(&mut self, alloc: Global, cookie: Option<Octets>) -> Result<Answer, NoMemory> {
+    fn changed(&mut self, alloc: Global, cookie: Option<&[u8]>) -> Result<Answer, NoMemory> {
         if !self.refreshed || cookie.is_none() {
             return Ok(Answer::Staged);
         }
@@ -147,14 +167,14 @@ impl PlainCopy {
     }
 
     /// Brings each change into effect, one after another.
-    fn store(&mut self, alloc: Global, cookie: Option<Octets>) -> Result<Answer, NoMemory> {
+    fn store(&mut self, alloc: Global, cookie: Option<&[u8]>) -> Result<Answer, NoMemory> {
         for (uuid, entry) in mem::replace(&mut self.stage, Vec::new(alloc)) {
             self.effect(uuid, entry)?;
         }
         let Some(cookie) = cookie else {
             return Ok(Answer::Copied);
         };
-        self.cookie = Some(Vec::from_slice(alloc, cookie.as_slice())?);
+        self.cookie = Some(Vec::from_slice(alloc, cookie)?);
         Ok(Answer::Stored)
     }
 
@@ -220,7 +240,7 @@ impl PlainCopy {
         alloc: Global,
         deletes: bool,
         done: bool,
-        cookie: Option<Octets>,
+        cookie: Option<&[u8]>,
     ) -> Result<Answer, NoMemory> {
         if self.refreshed || done && !self.persists || !self.ends(alloc, deletes)? {
             return Ok(Answer::Refused);
@@ -236,7 +256,7 @@ impl PlainCopy {
         &mut self,
         alloc: Global,
         code: i64,
-        control: Option<SyncDone>,
+        control: &Option<SyncDone>,
     ) -> Result<Answer, NoMemory> {
         if code == i64::from(E_SYNC_REFRESH_REQUIRED) {
             self.cookie = None;
@@ -244,19 +264,13 @@ impl PlainCopy {
         if code != i64::from(SUCCESS) || self.persists {
             return Ok(Answer::Over(code));
         }
-        let Some(
-            SyncDone {
-                cookie,
-                refresh_deletes,
-            },
-        ) = control
-        else {
+        let Some(control) = control else {
             return Ok(Answer::Refused);
         };
-        if !self.ends(alloc, refresh_deletes)? {
+        if !self.ends(alloc, control.refresh_deletes)? {
             return Ok(Answer::Refused);
         }
         self.session = None;
-        self.store(alloc, cookie)
+        self.store(alloc, slice_of(&control.cookie))
     }
 }

@@ -65,11 +65,11 @@ impl Pair {
     }
 
     /// Whether both make the same of a message.
-    fn take(&mut self, alloc: Global, text: &str) -> Result<bool, NoMemory> {
+    fn take(&mut self, alloc: Global, text: &str) -> Result<bool, Fail> {
         let message = sent(alloc, text)?;
         let agrees = self.take_sent(alloc, &message);
         discard(message);
-        agrees
+        Ok(agrees?)
     }
 
     fn take_sent(&mut self, alloc: Global, message: &Message) -> Result<bool, NoMemory> {
@@ -130,7 +130,7 @@ fn holds_each(plain: &PlainCopy, entries: &[&Entry]) -> Result<bool, NoMemory> {
 }
 
 /// Whether both make the same of the first messages. Then they begin a search anew.
-fn begins(alloc: Global, pair: &mut Pair, mode: Mode) -> Result<bool, NoMemory> {
+fn begins(alloc: Global, pair: &mut Pair, mode: Mode) -> Result<bool, Fail> {
     pair.ask(Mode::RefreshOnly)?;
     for text in FIRST.lines() {
         if !pair.take(alloc, text)? {
@@ -142,7 +142,7 @@ fn begins(alloc: Global, pair: &mut Pair, mode: Mode) -> Result<bool, NoMemory> 
 }
 
 /// Whether copies of the pair make the same of each message. They are put at the end of the copies.
-fn copies_agree(alloc: Global, pair: &Pair, copies: &mut Vec<Pair>) -> Result<bool, NoMemory> {
+fn copies_agree(alloc: Global, pair: &Pair, copies: &mut Vec<Pair>) -> Result<bool, Fail> {
     for text in TOLD.lines() {
         if !copy_agrees(alloc, pair, text, copies)? {
             return Ok(false);
@@ -156,22 +156,24 @@ fn copy_agrees(
     pair: &Pair,
     text: &str,
     copies: &mut Vec<Pair>,
-) -> Result<bool, NoMemory> {
+) -> Result<bool, Fail> {
     let mut copy = pair.copy()?;
     let agrees = copy.take(alloc, text);
-    push(copies, copy)?;
-    agrees
+    let pushed = push(copies, copy);
+    let agrees = agrees?;
+    pushed?;
+    Ok(agrees)
 }
 
 /// Whether copies of each pair make the same of each message. They take the place of the pairs.
-fn all_agree(alloc: Global, pairs: &mut Vec<Pair>) -> Result<bool, NoMemory> {
+fn all_agree(alloc: Global, pairs: &mut Vec<Pair>) -> Result<bool, Fail> {
     let earlier = mem::replace(pairs, Vec::new(alloc));
     let agrees = each_agrees(alloc, earlier.as_slice(), pairs);
     discard(earlier);
     agrees
 }
 
-fn each_agrees(alloc: Global, pairs: &[Pair], copies: &mut Vec<Pair>) -> Result<bool, NoMemory> {
+fn each_agrees(alloc: Global, pairs: &[Pair], copies: &mut Vec<Pair>) -> Result<bool, Fail> {
     for pair in pairs {
         if !copies_agree(alloc, pair, copies)? {
             return Ok(false);
@@ -187,10 +189,12 @@ fn sequences_agree(
     mut pair: Pair,
     mode: Mode,
     pairs: &mut Vec<Pair>,
-) -> Result<bool, NoMemory> {
+) -> Result<bool, Fail> {
     let begins = begins(alloc, &mut pair, mode);
-    push(pairs, pair)?;
-    if !begins? {
+    let pushed = push(pairs, pair);
+    let begins = begins?;
+    pushed?;
+    if !begins {
         return Ok(false);
     }
     for _ in 0..3 {
@@ -209,7 +213,7 @@ fn mode_agrees(alloc: Global, mode: Mode) -> Result<bool, Fail> {
     let mut pairs = Vec::new(alloc);
     let agrees = sequences_agree(alloc, pair, mode, &mut pairs);
     discard(pairs);
-    Ok(agrees?)
+    agrees
 }
 
 #[test]

@@ -50,12 +50,16 @@ fn name_of(alloc: Global, message: &Message) -> Result<String, Fail> {
         return Err(Fail::from("another operation"));
     }
     let bytes = message.write(alloc)?;
+    Ok(name_of_bytes(bytes.as_slice()).to_string(alloc)?)
+}
+
+fn name_of_bytes(bytes: &[u8]) -> &'static str {
     for (name, request) in &REQUESTS {
-        if bytes.as_slice() == *request {
-            return Ok(name.to_string(alloc)?);
+        if bytes == *request {
+            return *name;
         }
     }
-    Ok("another".to_string(alloc)?)
+    "another"
 }
 
 /// Whether it is a search without limits for the entries with a type, which has a spelling.

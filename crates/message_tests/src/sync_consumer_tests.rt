@@ -305,7 +305,7 @@ has -> 4 6 7 j
 new
 once
 stages 200000 -> Staged
-add 0 - cn=0 CSN -> Staged
+add 0 - cn=000000 CSN -> Staged
 add 200000 - cn=200000 CSN -> StageFull
 has -> -
 # One more entry than there may be is refused where the refresh ends.

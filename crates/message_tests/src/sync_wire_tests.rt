@@ -235,43 +235,44 @@ fn sent_entry(alloc: Global, adds: bool, csn: Option<Csn>) -> Result<Octets, Fai
     Ok(bytes?)
 }
 
+fn assert_sent(
+    rt: &impl Abort,
+    alloc: Global,
+    adds: bool,
+    csn: Option<Csn>,
+    wanted: &[u8],
+) -> Result<(), Fail> {
+    let sent = sent_entry(alloc, adds, csn)?;
+    assert_bytes(rt, if adds { "add" } else { "modify" }, &sent, wanted);
+    Ok(())
+}
+
 #[test]
 fn entries_are_sent(rt: HostRuntime) -> Result<(), Fail> {
     let csn = Some(Csn::parse(CSN)?);
-    assert_bytes(&rt, "add", &sent_entry(rt.alloc(), true, None)?, ENTRY);
-    assert_bytes(
-        &rt,
-        "modify",
-        &sent_entry(rt.alloc(), false, None)?,
-        CHANGED,
-    );
-    assert_bytes(
-        &rt,
-        "add, cookie",
-        &sent_entry(rt.alloc(), true, csn)?,
-        ADDED_LAST,
-    );
-    assert_bytes(
-        &rt,
-        "modify, cookie",
-        &sent_entry(rt.alloc(), false, csn)?,
-        CHANGED_LAST,
-    );
+    assert_sent(&rt, rt.alloc(), true, None, ENTRY)?;
+    assert_sent(&rt, rt.alloc(), false, None, CHANGED)?;
+    assert_sent(&rt, rt.alloc(), true, csn, ADDED_LAST)?;
+    assert_sent(&rt, rt.alloc(), false, csn, CHANGED_LAST)
+}
+
+fn assert_gone(
+    rt: &impl Abort,
+    alloc: Global,
+    csn: Option<Csn>,
+    wanted: &[u8],
+) -> Result<(), Fail> {
+    let name = Dn::parse(alloc, b"ou=s,ou=a,dc=x")?;
+    let sent = gone_bytes(alloc, &name, csn)?;
+    assert_bytes(rt, "delete", &sent, wanted);
     Ok(())
 }
 
 #[test]
 fn what_is_gone_is_sent(rt: HostRuntime) -> Result<(), Fail> {
     let csn = Some(Csn::parse(CSN)?);
-    let name = Dn::parse(rt.alloc(), b"ou=s,ou=a,dc=x")?;
-    assert_bytes(&rt, "delete", &gone_bytes(rt.alloc(), &name, None)?, GONE);
-    assert_bytes(
-        &rt,
-        "delete, cookie",
-        &gone_bytes(rt.alloc(), &name, csn)?,
-        GONE_LAST,
-    );
-    Ok(())
+    assert_gone(&rt, rt.alloc(), None, GONE)?;
+    assert_gone(&rt, rt.alloc(), csn, GONE_LAST)
 }
 
 #[test]
@@ -294,11 +295,17 @@ const REFRESH_ENDS: [(bool, bool, &[u8]); 4] = [
 #[test]
 fn ends_are_sent(rt: HostRuntime) -> Result<(), Fail> {
     let csn = Csn::parse(CSN)?;
-    for (persists, deletes, wanted) in REFRESH_ENDS {
-        let found = end_bytes(rt.alloc(), persists, deletes, csn)?;
+    for (persists, deletes, wanted) in &REFRESH_ENDS {
+        let found = end_bytes(rt.alloc(), *persists, *deletes, csn)?;
         assert_bytes(&rt, "end", &found, wanted);
     }
-    assert_bytes(&rt, "busy", &busy_bytes(rt.alloc())?, BUSY);
+    Ok(())
+}
+
+#[test]
+fn a_search_that_found_no_room_is_ended(rt: HostRuntime) -> Result<(), Fail> {
+    let found = busy_bytes(rt.alloc())?;
+    assert_bytes(&rt, "busy", &found, BUSY);
     Ok(())
 }
 

@@ -1,5 +1,5 @@
-//! Commits, in words: units that are put, each its identity, `:` and its name; and `-` before an
-//! identity that is dropped.
+//! Commits, in words: units that are put, each its identity, `:` and its name, or other entries, as
+//! `entry_of` has them; and `-` before an identity that is dropped.
 ghost use Rattle.std.specs.Prelude.{◌≡◌, true, nat_le, IfOk};
 ghost use Rattle.std.specs.List.{list_all};
 ghost use Rattle.entry_tree.specs.Fitting.{is_within_entry_limit};
@@ -7,7 +7,8 @@ ghost use Rattle.entry_tree.specs.Sound.{is_sound_put};
 ghost use Rattle.entry_tree.specs.State.{most_entry_weight};
 ghost use Rattle.schema_rules.specs.Attributes.{weight_of, is_given};
 
-use crate::rows::{number, push_counted, push_word};
+use crate::rows::{number, push_counted, push_made, push_word};
+use crate::tree_writes::{barred, csn_of};
 use crate::writes::{raw_list, unit};
 use csn_cookie::Csn;
 use dn_names::Dn;
@@ -35,7 +36,7 @@ pub(crate) fn commit(
     let puts = puts_of(alloc, of)?;
     let drops = drops_of(alloc, of)?;
     match provider.commit(puts, drops, 0) {
-        Ok(number) => Ok(push_counted(alloc, text, "w", number)?),
+        Ok(number) => push_counted(alloc, text, "w", number),
         Err(fault) => push_refusal(alloc, text, fault),
     }
 }
@@ -52,7 +53,7 @@ pub(crate) fn commit_both(
     let second = staged(alloc, second)?;
     let commits = vec![in alloc; first, second]?;
     match provider.commit_each(commits, 0) {
-        Ok(number) => Ok(push_counted(alloc, text, "w", number)?),
+        Ok(number) => push_counted(alloc, text, "w", number),
         Err(fault) => push_refusal(alloc, text, fault),
     }
 }
@@ -71,13 +72,12 @@ fn staged(alloc: Global, of: &str) -> Result<StagedCommit, Fail>
 fn push_refusal(alloc: Global, text: &mut String, fault: CommitFault) -> Result<(), Fail> {
     match fault {
         CommitFault::DuplicateName(one, other) => {
-            push_word(text, &format!(in alloc; "same{one},{other}")?)?;
+            push_made(text, format!(in alloc; "same{one},{other}"))
         }
-        CommitFault::LimitReached(limit) => push_counted(alloc, text, "limit", limit)?,
-        CommitFault::NotAReplica => push_word(text, "root")?,
-        CommitFault::NoMemory => return Err(Fail::from("out of memory")),
+        CommitFault::LimitReached(limit) => push_counted(alloc, text, "limit", limit),
+        CommitFault::NotAReplica => push_word(text, "root"),
+        CommitFault::NoMemory => Err(Fail::from("out of memory")),
     }
-    Ok(())
 }
 
 #[tactic(auto, using(ldap_ber::proofs::Lists::list_all_push))]
@@ -104,21 +104,51 @@ pub(crate) fn drops_of(alloc: Global, of: &str) -> Result<IdList, NoMemory> {
     Ok(uuids)
 }
 
-fn entry_of(alloc: Global, uuid: u64, name: &str) -> Result<Entry, Fail>
+/// The entry of an identity: a unit of this name, or `NUMBER:NAME|type=value;value|..`, with the
+/// CSN of the write of that number.
+fn entry_of(alloc: Global, uuid: u64, text: &str) -> Result<Entry, Fail>
     ensures sound { IfOk result (λ entry. is_sound_put entry ≡ true) }
     ensures light { IfOk result (λ entry. is_within_entry_limit entry ≡ true) }
 {
-    let attrs = attributes(alloc, raw_list(alloc, &unit(alloc, name)?, ' ', ',')?)?;
+    let (head, pieces) = barred(text);
+    let csn = csn_before(alloc, head)?;
+    let name = name_in(head);
+    let attrs = attributes(alloc, given(alloc, name, pieces)?)?;
     Ok(Entry {
         uuid: u128::from(uuid),
-        csn: Csn::parse(STAMP)?,
+        csn,
         dn: Dn::parse(alloc, name.as_bytes())?,
         attrs,
     })
 }
 
+/// The CSN of the write whose number stands before the name, or a CSN of no write.
+fn csn_before(alloc: Global, head: &str) -> Result<Csn, Fail> {
+    match head.split_once(':') {
+        Some((count, _)) => csn_of(alloc, number(count)),
+        None => Ok(Csn::parse(STAMP)?),
+    }
+}
+
+/// The name, without the number before it.
+fn name_in(head: &str) -> &str {
+    match head.split_once(':') {
+        Some((_, name)) => name,
+        None => head,
+    }
+}
+
+/// The attributes with bars between them, or those of the unit with this name.
+fn given(alloc: Global, name: &str, pieces: &str) -> Result<RawList, NoMemory> {
+    if !pieces.is_empty() {
+        return raw_list(alloc, pieces, '|', ';');
+    }
+    let unit = unit(alloc, name)?;
+    raw_list(alloc, &unit, ' ', ',')
+}
+
 #[tactic(auto, using(crate::proofs::Puts::sound_attributes))]
-pub(crate) fn attributes(alloc: Global, list: RawList) -> Result<Attrs, Fail>
+fn attributes(alloc: Global, list: RawList) -> Result<Attrs, Fail>
     ensures sound { IfOk result (λ attrs. list_all is_given attrs ≡ true) }
     ensures light { IfOk result (λ attrs. nat_le (weight_of attrs) most_entry_weight ≡ true) }
 {

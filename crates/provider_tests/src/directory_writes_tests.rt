@@ -6,7 +6,7 @@ ghost use Rattle.entry_tree.specs.Sound.{is_sound_op, is_commit};
 ghost use Rattle.directory_writes.specs.Directory.{entries_of};
 
 use crate::commits::{drops_of, puts_of};
-use crate::rows::{number, parted, push_counted, push_csn, push_word};
+use crate::rows::{number, parted, push_counted, push_csn, push_made, push_word};
 use crate::writes::change;
 use directory_writes::{Directory, DirectoryCommitFault, Preview, Ready, Standing, Start};
 use dn_names::Dn;
@@ -61,11 +61,21 @@ fn writes_are_notified_before_they_are_done(rt: HostRuntime) -> Result<(), Fail>
 
 fn check_rows(rt: &impl Abort, alloc: Global, directory: &mut Directory) -> Result<(), Fail> {
     for row in ROWS.lines() {
-        let (step, wanted) = row.split_once(" => ").ok_or(row)?;
-        let mut text = String::new(alloc);
-        take_step(alloc, directory, step, &mut text)?;
-        assert!(rt; text.as_str() == wanted, "{row}: {text}");
+        check_row(rt, alloc, directory, row)?;
     }
+    Ok(())
+}
+
+fn check_row(
+    rt: &impl Abort,
+    alloc: Global,
+    directory: &mut Directory,
+    row: &str,
+) -> Result<(), Fail> {
+    let (step, wanted) = row.split_once(" => ").ok_or(row)?;
+    let mut text = String::new(alloc);
+    take_step(alloc, directory, step, &mut text)?;
+    assert!(rt; text.as_str() == wanted, "{row}: {text}");
     Ok(())
 }
 
@@ -130,12 +140,35 @@ fn commit(
 fn plan(alloc: Global, directory: &Directory, of: &str, text: &mut String) -> Result<(), Fail> {
     let puts = puts_of(alloc, of)?;
     let drops = drops_of(alloc, of)?;
-    match directory.preview_commit(puts.list(), drops.list(), 0) {
-        Ok(preview) => {
-            push_planned(&preview, text)?;
-            push_numbers(alloc, directory, text)
-        }
-        Err(fault) => push_fault(alloc, fault, text),
+    let preview = directory.preview_commit(puts.list(), drops.list(), 0);
+    discard(puts);
+    discard(drops);
+    let done = push_plan(alloc, directory, &preview, text);
+    discard(preview);
+    done
+}
+
+fn push_plan(
+    alloc: Global,
+    directory: &Directory,
+    preview: &Result<Preview, DirectoryCommitFault>,
+    text: &mut String,
+) -> Result<(), Fail> {
+    push_judged(alloc, preview, text)?;
+    match preview {
+        Ok(_) => push_numbers(alloc, directory, text),
+        Err(_) => Ok(()),
+    }
+}
+
+fn push_judged(
+    alloc: Global,
+    preview: &Result<Preview, DirectoryCommitFault>,
+    text: &mut String,
+) -> Result<(), Fail> {
+    match preview {
+        Ok(preview) => push_planned(preview, text),
+        Err(fault) => push_fault(alloc, *fault, text),
     }
 }
 
@@ -143,15 +176,21 @@ fn plan(alloc: Global, directory: &Directory, of: &str, text: &mut String) -> Re
 /// Neither is done.
 fn turns(alloc: Global, directory: &Directory, of: &str, text: &mut String) -> Result<(), Fail> {
     let (first, second) = of.split_once(" & ").ok_or(of)?;
-    let ready = ready(alloc, directory.standing(), first, text)?;
-    let judged = judge(alloc, &ready.after, second, text);
+    let ready = ready(alloc, directory.standing(), first)?;
+    let judged = judge_after(alloc, &ready, second, text);
     discard(ready);
     judged?;
     push_numbers(alloc, directory, text)
 }
 
-/// Reports of a commit by what is kept beside the writes before it, and makes it ready.
-fn ready(alloc: Global, standing: &Standing, of: &str, text: &mut String) -> Result<Ready, Fail> {
+/// Reports of a commit that is ready, and of another as it would be after it.
+fn judge_after(alloc: Global, ready: &Ready, of: &str, text: &mut String) -> Result<(), Fail> {
+    push_planned(&ready.preview, text)?;
+    judge(alloc, &ready.after, of, text)
+}
+
+/// Makes a commit ready by what is kept beside the writes before it.
+fn ready(alloc: Global, standing: &Standing, of: &str) -> Result<Ready, Fail> {
     let puts = puts_of(alloc, of)?;
     let drops = drops_of(alloc, of)?;
     let entries = puts.list();
@@ -159,26 +198,29 @@ fn ready(alloc: Global, standing: &Standing, of: &str, text: &mut String) -> Res
     let Ok(preview) = standing.preview_commit(entries, identities, 0) else {
         return Err(Fail::from("the first is rejected"));
     };
-    push_planned(&preview, text)?;
     let op = Op::Commit(puts, drops);
-    Ok(standing.ready(&op, preview)?)
+    let ready = standing.ready(&op, preview);
+    discard(op);
+    Ok(ready?)
 }
 
 /// Reports of a commit by what is kept beside the writes before it.
 fn judge(alloc: Global, standing: &Standing, of: &str, text: &mut String) -> Result<(), Fail> {
     let puts = puts_of(alloc, of)?;
     let drops = drops_of(alloc, of)?;
-    match standing.preview_commit(puts.list(), drops.list(), 0) {
-        Ok(preview) => Ok(push_planned(&preview, text)?),
-        Err(fault) => push_fault(alloc, fault, text),
-    }
+    let preview = standing.preview_commit(puts.list(), drops.list(), 0);
+    discard(puts);
+    discard(drops);
+    let done = push_judged(alloc, &preview, text);
+    discard(preview);
+    done
 }
 
 /// Two entries of one name, which alone may be against a commit here.
 fn push_fault(alloc: Global, fault: DirectoryCommitFault, text: &mut String) -> Result<(), Fail> {
     match fault {
         DirectoryCommitFault::DuplicateName(one, other) => {
-            Ok(push_word(text, &format!(in alloc; "same{one},{other}")?)?)
+            push_made(text, format!(in alloc; "same{one},{other}"))
         }
         DirectoryCommitFault::LimitReached(_) | DirectoryCommitFault::NoMemory => Err(Fail::from(
             "a limit, or out of memory",
@@ -221,16 +263,16 @@ fn push_preview(
 }
 
 /// Its CSN, and a letter for each entry that it adds, changes or deletes.
-fn push_planned(preview: &Preview, text: &mut String) -> Result<(), NoMemory> {
+fn push_planned(preview: &Preview, text: &mut String) -> Result<(), Fail> {
     push_csn(text, preview.csn)?;
     push_word(text, "")?;
-    push_letters(text, preview.touched.list())
+    Ok(push_letters(text, preview.touched.list())?)
 }
 
 /// How many writes and entries there are.
 fn push_numbers(alloc: Global, directory: &Directory, text: &mut String) -> Result<(), Fail> {
     push_counted(alloc, text, "n", directory.accepted().len() as u64)?;
-    Ok(push_counted(alloc, text, "e", directory.tree().len() as u64)?)
+    push_counted(alloc, text, "e", directory.tree().len() as u64)
 }
 
 fn push_letters(text: &mut String, entry_changes: &[EntryChange]) -> Result<(), NoMemory> {
@@ -247,8 +289,8 @@ fn push_letters(text: &mut String, entry_changes: &[EntryChange]) -> Result<(), 
 fn push_state(alloc: Global, directory: &Directory, text: &mut String) -> Result<(), Fail> {
     push_numbers(alloc, directory, text)?;
     match directory.accepted().last() {
-        Some(write) => Ok(push_csn(text, write.csn)?),
-        None => Ok(push_word(text, "none")?),
+        Some(write) => push_csn(text, write.csn),
+        None => push_word(text, "none"),
     }
 }
 

@@ -4,7 +4,7 @@
 //! end of a refresh, with `on-` before it where the search goes on; `busy` for the end of a search
 //! whose queue was full. After it, `@` and the number of writes that its cookie names. Where there
 //! is no message: `nothing` or `none`.
-use crate::rows::{number, parted, push_word, utf8};
+use crate::rows::{number, parted, push_made, push_word, utf8};
 use csn_cookie::Cookie;
 use ldap_ber::{NoMemory, Octets, discard};
 use ldap_constants::{BUSY, SUCCESS, SYNC_DONE, SYNC_STATE};
@@ -71,10 +71,7 @@ fn push_message(
     match &message.op {
         Protocol::SearchResultEntry { name, .. } => {
             let state = SyncState::read(alloc, value_of(message, SYNC_STATE)?)?;
-            let (mark, number) = (mark_of(state.state), number_of(state.uuid));
-            let entry = format!(in alloc; "{mark}{number}:{}", utf8(name.as_slice()))?;
-            push_word(text, &entry)?;
-            push_cookie(alloc, provider, &state.cookie, text)
+            push_entry(alloc, provider, name, &state, text)
         }
         Protocol::IntermediateResponse {
             value: Some(value),
@@ -85,6 +82,21 @@ fn push_message(
         }
         _ => Err(Fail::from("another message")),
     }
+}
+
+fn push_entry(
+    alloc: Global,
+    provider: &SyncDirectory,
+    name: &Octets,
+    state: &SyncState,
+    text: &mut String,
+) -> Result<(), Fail> {
+    let (mark, number) = (mark_of(state.state), number_of(state.uuid));
+    push_made(
+        text,
+        format!(in alloc; "{mark}{number}:{}", utf8(name.as_slice())),
+    )?;
+    push_cookie(alloc, provider, &state.cookie, text)
 }
 
 fn mark_of(state: State) -> &'static str {
@@ -148,15 +160,28 @@ fn push_end(
         Protocol::SearchResultDone(outcome)
             if outcome.code == i64::from(SUCCESS) && code == SUCCESS => {
             let done = SyncDone::read(alloc, value_of(message, SYNC_DONE)?)?;
-            let deletes = done.refresh_deletes;
-            push_word(text, if deletes { "deletes" } else { "presents" })?;
-            push_cookie(alloc, provider, &done.cookie, text)
+            push_done(alloc, provider, &done, text)
         }
         Protocol::SearchResultDone(outcome) if outcome.code == i64::from(BUSY) && code == BUSY => {
-            Ok(push_word(text, "busy")?)
+            push_word(text, "busy")
         }
         _ => Err(Fail::from("another end")),
     }
+}
+
+fn push_done(
+    alloc: Global,
+    provider: &SyncDirectory,
+    done: &SyncDone,
+    text: &mut String,
+) -> Result<(), Fail> {
+    let word = if done.refresh_deletes {
+        "deletes"
+    } else {
+        "presents"
+    };
+    push_word(text, word)?;
+    push_cookie(alloc, provider, &done.cookie, text)
 }
 
 /// `@` and the number of writes that a cookie names, or nothing where there is none.

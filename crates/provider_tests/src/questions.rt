@@ -36,7 +36,7 @@ fn push_reply(alloc: Global, reply: &SearchReply, text: &mut String) -> Result<(
     match reply {
         SearchReply::Found(found) => push_entries(alloc, "f", found.list(), text),
         SearchReply::Over(first) => push_entries(alloc, "o", first.list(), text),
-        SearchReply::NoSuchBase => Ok(push_word(text, "c32")?),
+        SearchReply::NoSuchBase => push_word(text, "c32"),
         SearchReply::NoMemory => Err(Fail::from("out of memory")),
     }
 }
@@ -66,5 +66,5 @@ pub(crate) fn compare(
     let dn = Dn::parse(alloc, name.as_bytes())?;
     let code = provider.compare(&dn, kind.as_bytes(), value.as_bytes());
     discard(dn);
-    Ok(push_counted(alloc, text, "c", u64::from(code))?)
+    push_counted(alloc, text, "c", u64::from(code))
 }

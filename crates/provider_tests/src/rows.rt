@@ -112,19 +112,44 @@ fn take_step(
     let (word, of) = parted(step);
     match word {
         "root" | "replica" => Ok(()),
-        "once" | "stay" | "bad" | "once!" | "stay!" => open(alloc, provider, word, of, text),
         "hand" => hand_out(alloc, provider, of, text),
         "spell" => spell(alloc, provider, of, text),
         "busy" => spell_busy(alloc, text),
         "aside" => take_aside(alloc, provider, text),
+        "log" | "queue" | "drop" => change(alloc, provider, word, of, text),
+        _ => ask(alloc, provider, word, of, text),
+    }
+}
+
+/// What opens a search or asks without a change.
+fn ask(
+    alloc: Global,
+    provider: &mut SyncDirectory,
+    word: &str,
+    of: &str,
+    text: &mut String,
+) -> Result<(), Fail> {
+    match word {
+        "once" | "stay" | "bad" | "once!" | "stay!" => open(alloc, provider, word, of, text),
+        "size" | "csn" | "upto" | "of" => look(alloc, provider, word, of, text),
+        "find" => find(alloc, provider, of, text),
+        "compare" => compare(alloc, provider, of, text),
+        _ => write_or_commit(alloc, provider, word, of, text),
+    }
+}
+
+fn write_or_commit(
+    alloc: Global,
+    provider: &mut SyncDirectory,
+    word: &str,
+    of: &str,
+    text: &mut String,
+) -> Result<(), Fail> {
+    match word {
         "commit" => commit(alloc, provider, of, text),
         "commits" => commit_both(alloc, provider, of, text),
         "addto" => add_up_to(alloc, provider, of, text),
         "swing" => swing(alloc, provider, of, text),
-        "log" | "queue" | "drop" => change(alloc, provider, word, of, text),
-        "size" | "csn" | "upto" | "of" => look(alloc, provider, word, of, text),
-        "find" => find(alloc, provider, of, text),
-        "compare" => compare(alloc, provider, of, text),
         _ => write(alloc, provider, word, of, text),
     }
 }
@@ -149,7 +174,7 @@ fn drop_search(provider: &mut SyncDirectory, search: u64, text: &mut String) -> 
     ensures { provider.new.directory ≡ provider.old.directory }
 {
     let was_open = provider.drop_search(search);
-    Ok(push_word(text, if was_open { "dropped" } else { "none" })?)
+    push_word(text, if was_open { "dropped" } else { "none" })
 }
 
 /// Reports what the first two of three searches hand out up to their ends, and drops the third.
@@ -157,11 +182,38 @@ fn drop_search(provider: &mut SyncDirectory, search: u64, text: &mut String) -> 
 #[tactic(auto, using(sync_provider::proofs::Returns::no_write_came))]
 fn take_aside(alloc: Global, provider: &mut SyncDirectory, text: &mut String) -> Result<(), Fail> {
     let first = provider.search_snapshot(1)?;
+    let done = take_beside_first(alloc, provider, text);
+    provider.return_to_search(first);
+    done
+}
+
+// Each snapshot is in a function that cannot return with a fault while it holds it: so no proof
+// goes through the parts of a search at its ends.
+
+#[tactic(auto, using(sync_provider::proofs::Returns::no_write_came))]
+fn take_beside_first(
+    alloc: Global,
+    provider: &mut SyncDirectory,
+    text: &mut String,
+) -> Result<(), Fail>
+    ensures { provider.new.directory ≡ provider.old.directory }
+{
     let second = provider.search_snapshot(2)?;
+    let done = take_beside_second(alloc, provider, text);
+    provider.return_to_search(second);
+    done
+}
+
+#[tactic(auto, using(sync_provider::proofs::Returns::no_write_came))]
+fn take_beside_second(
+    alloc: Global,
+    provider: &mut SyncDirectory,
+    text: &mut String,
+) -> Result<(), Fail>
+    ensures { provider.new.directory ≡ provider.old.directory }
+{
     let third = provider.search_snapshot(3)?;
     let done = end_searches(alloc, provider, text);
-    provider.return_to_search(first);
-    provider.return_to_search(second);
     provider.return_to_search(third);
     done
 }
@@ -185,15 +237,28 @@ fn look(
     text: &mut String,
 ) -> Result<(), Fail> {
     match word {
-        "size" => {
-            let (writes, entries) = (provider.writes(), provider.tree().len());
-            let size = format!(in alloc; "{writes}/{entries}/{}", provider.history())?;
-            push_word(text, &size)?;
-        }
-        "upto" => push_counted(alloc, text, "", provider.upto(Csn::parse(of.as_bytes())?))?,
-        _ => push_csn(text, csn_of(provider, word, number(of))?)?,
+        "size" => push_size(alloc, provider, text),
+        "upto" => push_upto(alloc, provider, of, text),
+        _ => push_csn(text, csn_of(provider, word, number(of))?),
     }
-    Ok(())
+}
+
+fn push_size(alloc: Global, provider: &SyncDirectory, text: &mut String) -> Result<(), Fail> {
+    let (writes, entries) = (provider.writes(), provider.tree().len());
+    push_made(
+        text,
+        format!(in alloc; "{writes}/{entries}/{}", provider.history()),
+    )
+}
+
+fn push_upto(
+    alloc: Global,
+    provider: &SyncDirectory,
+    csn: &str,
+    text: &mut String,
+) -> Result<(), Fail> {
+    let writes = provider.upto(Csn::parse(csn.as_bytes())?);
+    push_counted(alloc, text, "", writes)
 }
 
 fn csn_of(provider: &SyncDirectory, word: &str, number: u64) -> Result<Csn, Fail> {
@@ -208,11 +273,16 @@ fn csn_of(provider: &SyncDirectory, word: &str, number: u64) -> Result<Csn, Fail
 }
 
 /// Puts the word at the end, with a space before it where it is not the first.
-pub(crate) fn push_word(text: &mut String, word: &str) -> Result<(), NoMemory> {
+pub(crate) fn push_word(text: &mut String, word: &str) -> Result<(), Fail> {
     if !text.is_empty() {
         text.push(' ')?;
     }
-    text.push_str(word)
+    Ok(text.push_str(word)?)
+}
+
+/// Puts a word that was made at the end.
+pub(crate) fn push_made(text: &mut String, word: Result<String, NoMemory>) -> Result<(), Fail> {
+    push_word(text, &word?)
 }
 
 /// Puts a word and the number at the end.
@@ -221,12 +291,11 @@ pub(crate) fn push_counted(
     text: &mut String,
     word: &str,
     number: u64,
-) -> Result<(), NoMemory> {
-    let counted = format!(in alloc; "{word}{number}")?;
-    push_word(text, &counted)
+) -> Result<(), Fail> {
+    push_made(text, format!(in alloc; "{word}{number}"))
 }
 
-pub(crate) fn push_csn(text: &mut String, csn: Csn) -> Result<(), NoMemory> {
+pub(crate) fn push_csn(text: &mut String, csn: Csn) -> Result<(), Fail> {
     push_word(text, utf8(&csn.write()))
 }
 

@@ -5,7 +5,7 @@
 //!
 //! An opened search reports `s`, its number, `@` and the number of writes, another one `c` and a
 //! code.
-use crate::rows::{number, parted, push_counted, push_word};
+use crate::rows::{number, parted, push_counted, push_made};
 use dn_names::Dn;
 use entry_tree::{Scope, Spec};
 use ldap_ber::{NoMemory, Octets};
@@ -22,12 +22,21 @@ pub(crate) fn open(
     text: &mut String,
 ) -> Result<(), Fail> {
     let search = asked(alloc, word, of)?;
-    match provider.accept(search) {
+    let accepted = provider.accept(search);
+    push_accepted(alloc, &accepted, text)
+}
+
+/// Reports what comes of a search.
+pub(crate) fn push_accepted(
+    alloc: Global,
+    accepted: &Accepted,
+    text: &mut String,
+) -> Result<(), Fail> {
+    match accepted {
         Accepted::Opened(search, number) => {
-            push_word(text, &format!(in alloc; "s{search}@{number}")?)?;
-            Ok(())
+            push_made(text, format!(in alloc; "s{search}@{number}"))
         }
-        Accepted::Refused(code) => Ok(push_counted(alloc, text, "c", u64::from(code))?),
+        Accepted::Refused(code) => push_counted(alloc, text, "c", u64::from(*code)),
         Accepted::NoMemory => Err(Fail::from("out of memory")),
     }
 }

@@ -53,7 +53,7 @@ pub(crate) fn spell(
     let handed = provider.hand_out(number(search));
     let name = name_of_handed(alloc, &handed);
     discard(handed);
-    Ok(push_word(text, &name?)?)
+    push_word(text, &name?)
 }
 
 /// Reports the name of the spelling of the end with busy.
@@ -61,7 +61,7 @@ pub(crate) fn spell_busy(alloc: Global, text: &mut String) -> Result<(), Fail> {
     let message = done_message(alloc, 7, BUSY)?;
     let name = name_of(alloc, &message);
     discard(message);
-    Ok(push_word(text, &name?)?)
+    push_word(text, &name?)
 }
 
 fn name_of_handed(alloc: Global, handed: &Handed) -> Result<String, Fail> {

@@ -9,14 +9,18 @@ use std::alloc::Global;
 /// Puts each value with its type in front of it, and a bar before it where another is there.
 fn push_attribute(text: &mut String, attribute: &Attribute) -> Result<(), NoMemory> {
     for value in attribute.values.list() {
-        if !text.as_str().ends_with(' ') {
-            text.push('|')?;
-        }
-        text.push_str(utf8(attribute.kind.name()))?;
-        text.push('=')?;
-        text.push_str(utf8(value.as_slice()))?;
+        push_value(text, utf8(attribute.kind.name()), utf8(value.as_slice()))?;
     }
     Ok(())
+}
+
+fn push_value(text: &mut String, kind: &str, value: &str) -> Result<(), NoMemory> {
+    if !text.as_str().ends_with(' ') {
+        text.push('|')?;
+    }
+    text.push_str(kind)?;
+    text.push('=')?;
+    text.push_str(value)
 }
 
 pub(crate) fn push_entry(
@@ -25,14 +29,23 @@ pub(crate) fn push_entry(
     sign: &str,
     entry: &Entry,
 ) -> Result<(), NoMemory> {
+    let head = head_of(alloc, sign, entry)?;
+    text.push_str(&head)?;
+    push_attributes(text, entry.attrs.list())?;
+    text.push('\n')
+}
+
+fn head_of(alloc: Global, sign: &str, entry: &Entry) -> Result<String, NoMemory> {
     let name = entry.dn.write()?;
     let (uuid, micros) = (entry.uuid, entry.csn.micros());
-    let head = format!(in alloc; "{sign}{uuid} {micros} {} ", utf8(name.as_slice()))?;
-    text.push_str(&head)?;
-    for attribute in entry.attrs.list() {
+    format!(in alloc; "{sign}{uuid} {micros} {} ", utf8(name.as_slice()))
+}
+
+fn push_attributes(text: &mut String, attributes: &[Attribute]) -> Result<(), NoMemory> {
+    for attribute in attributes {
         push_attribute(text, attribute)?;
     }
-    text.push('\n')
+    Ok(())
 }
 
 /// Puts the entry, where there is one.

@@ -9,7 +9,7 @@
 //! name, `get` a copy of that entry. `select` takes a scope, a type or a filter in parentheses, and a
 //! base.
 use crate::commit_tests::{commit, hold};
-use crate::rows::{number, parted, push_counted, push_word};
+use crate::rows::{number, parted, push_counted, push_made, push_word};
 use crate::tree_lines::{entries_of, push_difference, push_entry};
 use crate::tree_writes::{NEXT, code_of, outcome, preview_outcome};
 use crate::writes::octets;
@@ -86,8 +86,19 @@ fn expanded(alloc: Global, step: &str) -> Result<String, Fail> {
     let (count, rest) = parted(of);
     let (piece, step) = parted(rest);
     let (before, after) = step.split_once('*').ok_or(step)?;
+    Ok(long(alloc, before, piece, number(count), after)?)
+}
+
+/// A text with this piece that often in it.
+fn long(
+    alloc: Global,
+    before: &str,
+    piece: &str,
+    count: u64,
+    after: &str,
+) -> Result<String, NoMemory> {
     let mut text = before.to_string(alloc)?;
-    for _ in 0..number(count) {
+    for _ in 0..count {
         text.push_str(piece)?;
     }
     text.push_str(after)?;
@@ -97,17 +108,37 @@ fn expanded(alloc: Global, step: &str) -> Result<String, Fail> {
 fn take_step(alloc: Global, tree: &mut Tree, step: &str, text: &mut String) -> Result<(), Fail> {
     let (word, of) = parted(step);
     match word {
-        "new" => Ok(()),
+        "len" | "weight" | "find" | "name" | "get" | "left" => look(alloc, tree, word, of, text),
+        "select" => select(alloc, tree, of, text),
+        "held" => hold(alloc, of, text),
+        "commit" => commit(alloc, tree, of, text),
+        "new" | "deep" | "wide" => begin(alloc, tree, word, number(of)),
+        _ => write_in_words(alloc, tree, step, text),
+    }
+}
+
+/// More entries to begin with.
+fn begin(alloc: Global, tree: &mut Tree, word: &str, count: u64) -> Result<(), Fail> {
+    match word {
         "deep" => deepen(alloc, tree),
-        "wide" => widen(alloc, tree, number(of)),
+        "wide" => widen(alloc, tree, count),
+        _ => Ok(()),
+    }
+}
+
+/// A write, or a word for what of it is reported and the write.
+fn write_in_words(
+    alloc: Global,
+    tree: &mut Tree,
+    step: &str,
+    text: &mut String,
+) -> Result<(), Fail> {
+    let (word, of) = parted(step);
+    match word {
         "moves" => move_unit(alloc, tree, number(of), text),
         "touch" => touch(alloc, tree, of, text),
         "count" => report_count(alloc, tree, of, text),
         "preview" => preview(alloc, tree, of, text),
-        "commit" => commit(alloc, tree, of, text),
-        "held" => hold(alloc, of, text),
-        "select" => select(alloc, tree, of, text),
-        "len" | "weight" | "find" | "name" | "get" | "left" => look(alloc, tree, word, of, text),
         _ => write(alloc, tree, step, text),
     }
 }
@@ -140,19 +171,19 @@ fn write(alloc: Global, tree: &mut Tree, step: &str, text: &mut String) -> Resul
     let outcome = outcome(alloc, tree, step)?;
     let code = code_of(&outcome);
     discard(outcome);
-    Ok(push_counted(alloc, text, "", u64::from(code?))?)
+    push_counted(alloc, text, "", u64::from(code?))
 }
 
 fn touch(alloc: Global, tree: &mut Tree, of: &str, text: &mut String) -> Result<(), Fail> {
-    let answer = answer_of(alloc, outcome(alloc, tree, of)?)?;
-    Ok(push_word(text, &answer)?)
+    let answer = answered(alloc, tree, of)?;
+    push_word(text, &answer)
 }
 
 fn report_count(alloc: Global, tree: &mut Tree, of: &str, text: &mut String) -> Result<(), Fail> {
     let entry_changes = outcome(alloc, tree, of)??;
     let count = entry_changes.list().len();
     discard(entry_changes);
-    Ok(push_counted(alloc, text, "", count as u64)?)
+    push_counted(alloc, text, "", count as u64)
 }
 
 /// Renames `ou=b,o=x` N times, and reports of each of these writes how much it touches.
@@ -189,20 +220,31 @@ fn push_answer(
     Ok(())
 }
 
-fn preview(alloc: Global, tree: &mut Tree, of: &str, text: &mut String) -> Result<(), Fail> {
+/// What comes of a write.
+fn answered(alloc: Global, tree: &mut Tree, of: &str) -> Result<String, Fail> {
+    answer_of(alloc, outcome(alloc, tree, of)?)
+}
+
+/// What would come of it, and whether the entries stay as they were.
+fn previewed(alloc: Global, tree: &Tree, of: &str) -> Result<(String, bool), Fail> {
     let before = entries_of(alloc, tree)?;
     let seen = answer_of(alloc, preview_outcome(alloc, tree, of)?)?;
-    let stays = entries_of(alloc, tree)?.as_str() == before.as_str();
-    let done = answer_of(alloc, outcome(alloc, tree, of)?)?;
+    let after = entries_of(alloc, tree)?;
+    Ok((seen, after.as_str() == before.as_str()))
+}
+
+fn preview(alloc: Global, tree: &mut Tree, of: &str, text: &mut String) -> Result<(), Fail> {
+    let (seen, stays) = previewed(alloc, tree, of)?;
+    let done = answered(alloc, tree, of)?;
     let is_same = seen.as_str() == done.as_str();
     let (code, _) = parted(&seen);
-    Ok(push_word(text, &format!(in alloc; "{code} {stays} {is_same}")?)?)
+    push_made(text, format!(in alloc; "{code} {stays} {is_same}"))
 }
 
 fn look(alloc: Global, tree: &Tree, word: &str, of: &str, text: &mut String) -> Result<(), Fail> {
     match word {
-        "len" => Ok(push_counted(alloc, text, "", tree.len() as u64)?),
-        "weight" => Ok(push_counted(alloc, text, "", tree.weight())?),
+        "len" => push_counted(alloc, text, "", tree.len() as u64),
+        "weight" => push_counted(alloc, text, "", tree.weight()),
         "find" => find(alloc, tree, of, text),
         "name" => compare(alloc, tree, of, text),
         "get" => get(alloc, tree, of, text),
@@ -222,7 +264,7 @@ fn find(alloc: Global, tree: &Tree, of: &str, text: &mut String) -> Result<(), F
     let copy = tree.copy()?;
     let (found, also) = (uuid_of(tree.find(&dn)), uuid_of(copy.find(&dn)));
     discard(copy);
-    Ok(push_word(text, &format!(in alloc; "{found:?} {also:?}")?)?)
+    push_made(text, format!(in alloc; "{found:?} {also:?}"))
 }
 
 fn compare(alloc: Global, tree: &Tree, of: &str, text: &mut String) -> Result<(), Fail> {
@@ -232,12 +274,12 @@ fn compare(alloc: Global, tree: &Tree, of: &str, text: &mut String) -> Result<()
         Some(entry) => entry.dn.same(&dn),
         None => false,
     };
-    Ok(push_word(text, &format!(in alloc; "{is_same}")?)?)
+    push_made(text, format!(in alloc; "{is_same}"))
 }
 
 fn get(alloc: Global, tree: &Tree, of: &str, text: &mut String) -> Result<(), Fail> {
     let Some(entry) = tree.get(u128::from(number(of))) else {
-        return Ok(push_word(text, "none")?);
+        return push_word(text, "none");
     };
     push_word(text, "")?;
     Ok(push_entry(alloc, text, "=", &entry.copy()?)?)
@@ -247,7 +289,7 @@ fn get(alloc: Global, tree: &Tree, of: &str, text: &mut String) -> Result<(), Fa
 fn push_left(alloc: Global, tree: &Tree, text: &mut String) -> Result<(), Fail> {
     let (left, weight) = (entries_of(alloc, tree)?, tree.weight());
     let is_same = is_copied(alloc, tree, &left)?;
-    Ok(push_word(text, &format!(in alloc; "{left}{weight} {is_same}")?)?)
+    push_made(text, format!(in alloc; "{left}{weight} {is_same}"))
 }
 
 fn is_copied(alloc: Global, tree: &Tree, left: &str) -> Result<bool, NoMemory> {
@@ -284,7 +326,7 @@ fn select(alloc: Global, tree: &Tree, of: &str, text: &mut String) -> Result<(),
     };
     let selected = selected(alloc, tree, &spec);
     discard(spec);
-    Ok(push_word(text, &selected?)?)
+    push_word(text, &selected?)
 }
 
 fn selected(alloc: Global, tree: &Tree, spec: &Spec) -> Result<String, NoMemory> {

@@ -18,10 +18,9 @@ pub(crate) fn write(
 ) -> Result<(), Fail> {
     let reply = replied(alloc, provider, change(alloc, word, of)?)?;
     match reply.code {
-        SUCCESS => push_counted(alloc, text, "w", reply.number)?,
-        code => push_counted(alloc, text, "c", u64::from(code))?,
+        SUCCESS => push_counted(alloc, text, "w", reply.number),
+        code => push_counted(alloc, text, "c", u64::from(code)),
     }
-    Ok(())
 }
 
 /// The reply to a write.
@@ -53,7 +52,7 @@ pub(crate) fn add_up_to(
         let name = format!(in alloc; "ou=u{},dc=x", write.saturating_add(1))?;
         accept(alloc, provider, "add", &name)?;
     }
-    Ok(push_counted(alloc, text, "w", provider.writes())?)
+    push_counted(alloc, text, "w", provider.writes())
 }
 
 /// One first part becomes the other, and the other the one, n times in all.
@@ -74,7 +73,7 @@ pub(crate) fn swing(
         let renamed = format!(in alloc; "{from},dc=x {to}")?;
         accept(alloc, provider, "rename", &renamed)?;
     }
-    Ok(push_counted(alloc, text, "w", provider.writes())?)
+    push_counted(alloc, text, "w", provider.writes())
 }
 
 pub(crate) fn change(alloc: Global, word: &str, of: &str) -> Result<Change, Fail> {

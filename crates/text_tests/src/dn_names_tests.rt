@@ -1,9 +1,9 @@
 //! Names read and written, and names against each other.
-use crate::assertions::{Row, assert_same, utf8};
+use crate::assertions::{Row, assert_same, or_fault, push_times, shown, utf8};
 use dn_names::{Dn, NameFault, Rdn};
+use ldap_ber::NoMemory;
 use std::alloc::Global;
 use std::process::Abort;
-use std::test::Fail;
 
 /// Texts of names, and how the names are written.
 const WRITTEN: [Row; 19] = [
@@ -84,23 +84,29 @@ const LONG: [Row; 5] = [
 /// A name and another: whether they are equal, the first is at or below, or a child, and both have
 /// one key.
 const COMPARED: [Row; 12] = [
-    ("|", "true true false true"),
-    ("dc=x|", "false true true false"),
-    (r"OU=a+l=B,dc=X|L=b+ou=\41,dc=x", "true true false true"),
-    ("ou=a+l=b,dc=x|ou=a,dc=x", "false false false false"),
-    ("ou=a  b,dc=x|ou=A B,dc=x", "true true false true"),
-    ("memberUid=a|memberUid=A", "false false false false"),
-    ("ou=s,ou=a,dc=x|ou=A,dc=x", "false true true false"),
-    ("ou=t,ou=s,ou=a,dc=x|ou=a,dc=x", "false true false false"),
-    ("ou=a,dc=x|ou=s,ou=a,dc=x", "false false false false"),
-    ("ou=aa,dc=x|ou=a,dc=x", "false false false false"),
-    ("cn=a,dc=x|sn=a,dc=x", "false false false false"),
-    ("ou=a,ou=b|ou=a+ou=b", "false false false false"),
+    ("|", "(true, true, false, true)"),
+    ("dc=x|", "(false, true, true, false)"),
+    (
+        r"OU=a+l=B,dc=X|L=b+ou=\41,dc=x",
+        "(true, true, false, true)",
+    ),
+    ("ou=a+l=b,dc=x|ou=a,dc=x", "(false, false, false, false)"),
+    ("ou=a  b,dc=x|ou=A B,dc=x", "(true, true, false, true)"),
+    ("memberUid=a|memberUid=A", "(false, false, false, false)"),
+    ("ou=s,ou=a,dc=x|ou=A,dc=x", "(false, true, true, false)"),
+    (
+        "ou=t,ou=s,ou=a,dc=x|ou=a,dc=x",
+        "(false, true, false, false)",
+    ),
+    ("ou=a,dc=x|ou=s,ou=a,dc=x", "(false, false, false, false)"),
+    ("ou=aa,dc=x|ou=a,dc=x", "(false, false, false, false)"),
+    ("cn=a,dc=x|sn=a,dc=x", "(false, false, false, false)"),
+    ("ou=a,ou=b|ou=a+ou=b", "(false, false, false, false)"),
 ];
 
 /// The first RDN of a name: how it is written, how many pairs its copy has, and the key of the
 /// first.
-const RDNS: [Row; 1] = [("CN=e + l=b", "cn=e+l=b 2 e")];
+const RDNS: [Row; 1] = [("CN=e + l=b", r#"("cn=e+l=b", 2, "e")"#)];
 
 /// A name, an RDN that goes below it, a name that it is at or below, and one in the place of that:
 /// how the superior, the name below and the name that is moved are written.
@@ -119,46 +125,47 @@ const BUILT: [Row; 2] = [
 /// Names and their path keys: of each RDN the number of its pairs, and of each pair the number of
 /// its type, the length of its key, and the key; numbers and lengths in four octets.
 const PATHS: [Row; 5] = [
-    ("", "true []"),
-    ("DC=X", "true [0, 0, 0, 1, 0, 0, 0, 12, 0, 0, 0, 1, 120]"),
+    ("", "(true, [])"),
+    ("DC=X", "(true, [0, 0, 0, 1, 0, 0, 0, 12, 0, 0, 0, 1, 120])"),
     // The RDN at the root comes first.
     (
         "L=B,o=c",
-        "true [0, 0, 0, 1, 0, 0, 0, 10, 0, 0, 0, 1, 99, 0, 0, 0, 1, 0, 0, 0, 11, 0, 0, 0, 1, 98]",
+        "(true, [0, 0, 0, 1, 0, 0, 0, 10, 0, 0, 0, 1, 99, \
+         0, 0, 0, 1, 0, 0, 0, 11, 0, 0, 0, 1, 98])",
     ),
     // The pair of ou is less than that of l.
     (
         "L=B+OU=A",
-        "true [0, 0, 0, 2, 0, 0, 0, 9, 0, 0, 0, 1, 97, 0, 0, 0, 11, 0, 0, 0, 1, 98]",
+        "(true, [0, 0, 0, 2, 0, 0, 0, 9, 0, 0, 0, 1, 97, 0, 0, 0, 11, 0, 0, 0, 1, 98])",
     ),
     (
         "cn=ab+ou=A,dc=x",
-        "true [0, 0, 0, 1, 0, 0, 0, 12, 0, 0, 0, 1, 120, 0, 0, 0, 2, 0, 0, 0, 1, 0, 0, 0, 2, 97, 98, 0, 0, 0, 9, 0, 0, 0, 1, 97]",
+        "(true, [0, 0, 0, 1, 0, 0, 0, 12, 0, 0, 0, 1, 120, \
+         0, 0, 0, 2, 0, 0, 0, 1, 0, 0, 0, 2, 97, 98, 0, 0, 0, 9, 0, 0, 0, 1, 97])",
     ),
 ];
 
 #[test]
-fn names(rt: HostRuntime) -> Result<(), Fail> {
-    check_rows(&rt, rt.alloc(), "written", &WRITTEN)?;
-    check_rows(&rt, rt.alloc(), "fault", &REFUSED)?;
-    check_rows(&rt, rt.alloc(), "long", &LONG)?;
-    check_rows(&rt, rt.alloc(), "compared", &COMPARED)?;
-    check_rows(&rt, rt.alloc(), "path", &PATHS)?;
-    check_rows(&rt, rt.alloc(), "rdn", &RDNS)?;
-    check_rows(&rt, rt.alloc(), "built", &BUILT)
+fn names(rt: HostRuntime) {
+    check_rows(&rt, rt.alloc(), "written", &WRITTEN);
+    check_rows(&rt, rt.alloc(), "fault", &REFUSED);
+    check_rows(&rt, rt.alloc(), "long", &LONG);
+    check_rows(&rt, rt.alloc(), "compared", &COMPARED);
+    check_rows(&rt, rt.alloc(), "path", &PATHS);
+    check_rows(&rt, rt.alloc(), "rdn", &RDNS);
+    check_rows(&rt, rt.alloc(), "built", &BUILT);
 }
 
-fn check_rows(rt: &impl Abort, alloc: Global, word: &str, rows: &[Row]) -> Result<(), Fail> {
+fn check_rows(rt: &impl Abort, alloc: Global, word: &str, rows: &[Row]) {
     for (asked, wanted) in rows {
-        let reported = reported(alloc, word, asked)?;
+        let reported = or_fault(alloc, reported(alloc, word, asked)).expect(rt, asked);
         assert_same(rt, asked, &reported.as_str(), wanted);
     }
-    Ok(())
 }
 
 /// What is reported of the text, or the fault that refuses it.
-fn reported(alloc: Global, word: &str, text: &str) -> Result<String, Fail> {
-    let reported = match word {
+fn reported(alloc: Global, word: &str, text: &str) -> Result<String, NameFault> {
+    match word {
         "written" => rewritten(alloc, text),
         "long" => long(alloc, text),
         "compared" => compared(alloc, text),
@@ -166,10 +173,6 @@ fn reported(alloc: Global, word: &str, text: &str) -> Result<String, Fail> {
         "rdn" => rdn(alloc, text),
         "built" => built(alloc, text),
         _ => read(alloc, text),
-    };
-    match reported {
-        Ok(reported) => Ok(reported),
-        Err(fault) => Ok(format!(in alloc; "{fault:?}")?),
     }
 }
 
@@ -180,7 +183,14 @@ fn read(alloc: Global, text: &str) -> Result<String, NameFault> {
 
 fn rewritten(alloc: Global, text: &str) -> Result<String, NameFault> {
     let name = Dn::parse(alloc, text.as_bytes())?;
-    Ok(utf8(name.write()?.as_slice()).to_string(alloc)?)
+    let mut text = String::new(alloc);
+    push_name(&mut text, &name)?;
+    Ok(text)
+}
+
+/// Puts the name at the end as it is written.
+fn push_name(text: &mut String, name: &Dn) -> Result<(), NoMemory> {
+    text.push_str(utf8(name.write()?.as_slice()))
 }
 
 /// The text before the first bar, and that after it.
@@ -194,9 +204,7 @@ fn long(alloc: Global, text: &str) -> Result<String, NameFault> {
     let (piece, rest) = parted(rest);
     let (count, end) = parted(rest);
     let mut text = prefix.to_string(alloc)?;
-    for _ in 0..count.parse::<u64>().unwrap_or(0) {
-        text.push_str(piece)?;
-    }
+    push_times(&mut text, piece, count)?;
     text.push_str(end)?;
     read(alloc, &text)
 }
@@ -205,12 +213,13 @@ fn compared(alloc: Global, text: &str) -> Result<String, NameFault> {
     let (one, other) = parted(text);
     let name = Dn::parse(alloc, one.as_bytes())?;
     let base = Dn::parse(alloc, other.as_bytes())?;
-    let (is_same, is_below) = (name.same(&base), name.is_at_or_below(&base));
+    Ok(relation(alloc, &name, &base)?)
+}
+
+fn relation(alloc: Global, name: &Dn, base: &Dn) -> Result<String, NoMemory> {
     let has_key = name.key()? == base.key()?;
-    Ok(format!(in alloc;
-        "{is_same} {is_below} {} {has_key}",
-        name.is_child_of(&base)
-    )?)
+    let (is_same, is_below) = (name.same(base), name.is_at_or_below(base));
+    shown(alloc, &(is_same, is_below, name.is_child_of(base), has_key))
 }
 
 /// The path key of a name, and whether the one that it lends is the same.
@@ -218,34 +227,53 @@ fn path(alloc: Global, text: &str) -> Result<String, NameFault> {
     let name = Dn::parse(alloc, text.as_bytes())?;
     let path = name.copy()?.path_key()?;
     let is_lent = name.path() == path.as_slice();
-    Ok(format!(in alloc; "{is_lent} {:?}", path.as_slice())?)
+    Ok(shown(alloc, &(is_lent, path.as_slice()))?)
 }
 
 fn rdn(alloc: Global, text: &str) -> Result<String, NameFault> {
     let rdn = Rdn::parse(alloc, text.as_bytes())?.copy()?;
+    Ok(rdn_shown(alloc, &rdn)?)
+}
+
+fn rdn_shown(alloc: Global, rdn: &Rdn) -> Result<String, NoMemory> {
     let written = rdn.write()?;
-    let (count, first) = (rdn.list().len(), utf8(rdn.list()[0].key()));
-    Ok(format!(in alloc; "{} {count} {first}", utf8(written.as_slice()))?)
+    let written = utf8(written.as_slice());
+    shown(
+        alloc,
+        &(written, rdn.list().len(), utf8(rdn.list()[0].key())),
+    )
 }
 
 fn built(alloc: Global, text: &str) -> Result<String, NameFault> {
     let (name, rest) = parted(text);
-    let (rdn, rest) = parted(rest);
-    let (from, to) = parted(rest);
     let name = Dn::parse(alloc, name.as_bytes())?.copy()?;
-    let below = name.below(&Rdn::parse(alloc, rdn.as_bytes())?)?.write()?;
-    let moved = moved(alloc, &name, from, to)?.write()?;
-    let (below, moved) = (utf8(below.as_slice()), utf8(moved.as_slice()));
-    Ok(format!(in alloc; "{} {below} {moved}", superior(alloc, &name)?)?)
+    let mut text = superior(alloc, &name)?;
+    push_built(alloc, &mut text, &name, rest)?;
+    Ok(text)
 }
 
 /// How the name of the superior is written, if there is one.
 fn superior(alloc: Global, name: &Dn) -> Result<String, NameFault> {
-    if name.rdns().is_empty() {
-        return Ok(String::new(alloc));
+    let mut text = String::new(alloc);
+    if !name.rdns().is_empty() {
+        push_name(&mut text, &name.parent()?)?;
     }
-    let superior = name.parent()?.write()?;
-    Ok(utf8(superior.as_slice()).to_string(alloc)?)
+    Ok(text)
+}
+
+/// Puts the name below, and the name that is moved, each after a space.
+fn push_built(alloc: Global, text: &mut String, name: &Dn, of: &str) -> Result<(), NameFault> {
+    let (rdn, rest) = parted(of);
+    let (from, to) = parted(rest);
+    text.push(' ')?;
+    push_name(text, &below(alloc, name, rdn)?)?;
+    text.push(' ')?;
+    Ok(push_name(text, &moved(alloc, name, from, to)?)?)
+}
+
+fn below(alloc: Global, name: &Dn, rdn: &str) -> Result<Dn, NameFault> {
+    let rdn = Rdn::parse(alloc, rdn.as_bytes())?;
+    name.below(&rdn)
 }
 
 /// The name with the second in place of the first at its end, or itself where the first is not

@@ -1,11 +1,10 @@
 //! Filters as text, and what they say of an entry.
-use crate::assertions::{Row, assert_same, utf8};
+use crate::assertions::{Row, assert_same, joined, or_fault, push_times, shown, utf8};
 use ldap_ber::{NoMemory, Octets, OctetsList, discard};
 use ldap_filter::{Filter, FilterFault, FilterList};
 use schema_rules::{Attrs, RawAttribute, RawList};
 use std::alloc::Global;
 use std::process::Abort;
-use std::test::Fail;
 
 /// Texts, and of each whether its copy is the same and its text is read as the same, and how that
 /// is written. The first of them are the examples of RFC 4515, section 4, but for the extensible
@@ -102,8 +101,8 @@ const LEVELS: [Row; 6] = [
 
 /// How often a piece stands after a prefix. Long lists take no more of the stack than short ones.
 const LONG: [Row; 2] = [
-    ("10000 (cn=a) (|", "true true"),
-    ("10000 *b (cn=a", "true true"),
+    ("10000 (cn=a) (|", "(true, true)"),
+    ("10000 *b (cn=a", "(true, true)"),
 ];
 
 /// Filters of this text have none of their own.
@@ -124,18 +123,18 @@ const NO_TRUTHS: [Row; 1] = [("", "Undefined")];
 
 /// Two filters, and whether each is the same as the other.
 const PAIRS: [Row; 12] = [
-    ("(cn=a) (CN=a)", "true true"),
-    ("(&(cn=a)(sn=b)) (&(cn=a)(sn=b))", "true true"),
-    ("(cn=*) (Cn=*)", "true true"),
-    ("(cn=a) (cn=A)", "false false"),
-    ("(cn=a) (cn~=a)", "false false"),
-    ("(cn=a) (sn=a)", "false false"),
-    ("(cn>=a) (cn<=a)", "false false"),
-    ("(&(cn=a)(sn=b)) (&(sn=b)(cn=a))", "false false"),
-    ("(&(cn=a)) (&(cn=a)(cn=a))", "false false"),
-    ("(&) (|)", "false false"),
-    ("(cn=a*b) (cn=a\\2ab)", "false false"),
-    ("(cn=a*b*) (cn=a*b)", "false false"),
+    ("(cn=a) (CN=a)", "(true, true)"),
+    ("(&(cn=a)(sn=b)) (&(cn=a)(sn=b))", "(true, true)"),
+    ("(cn=*) (Cn=*)", "(true, true)"),
+    ("(cn=a) (cn=A)", "(false, false)"),
+    ("(cn=a) (cn~=a)", "(false, false)"),
+    ("(cn=a) (sn=a)", "(false, false)"),
+    ("(cn>=a) (cn<=a)", "(false, false)"),
+    ("(&(cn=a)(sn=b)) (&(sn=b)(cn=a))", "(false, false)"),
+    ("(&(cn=a)) (&(cn=a)(cn=a))", "(false, false)"),
+    ("(&) (|)", "(false, false)"),
+    ("(cn=a*b) (cn=a\\2ab)", "(false, false)"),
+    ("(cn=a*b*) (cn=a*b)", "(false, false)"),
 ];
 
 const ENTRY: &str = "cn=Ann  Lee|cn=bab|uidNumber=7|gidNumber=-12|syncActive=TRUE\
@@ -197,62 +196,71 @@ const TRUTHS: [Row; 50] = [
 ];
 
 #[test]
-fn texts_of_filters(rt: HostRuntime) -> Result<(), Fail> {
-    check_rows(&rt, rt.alloc(), "again", &WRITTEN)?;
-    check_rows(&rt, rt.alloc(), "fault", &REFUSED)?;
-    check_bytes(&rt, rt.alloc())?;
-    check_rows(&rt, rt.alloc(), "nested", &LEVELS)?;
-    check_rows(&rt, rt.alloc(), "long", &LONG)?;
-    check_rows(&rt, rt.alloc(), "again", &WITHOUT_TEXT)?;
-    check_rows(&rt, rt.alloc(), "present", &NO_TYPES)?;
-    check_rows(&rt, rt.alloc(), "list", &NO_LISTS)
+fn texts_of_filters(rt: HostRuntime) {
+    check_rows(&rt, rt.alloc(), "again", &WRITTEN);
+    check_rows(&rt, rt.alloc(), "fault", &REFUSED);
+    check_bytes(&rt, rt.alloc());
+    check_rows(&rt, rt.alloc(), "nested", &LEVELS);
+    check_rows(&rt, rt.alloc(), "long", &LONG);
+    check_rows(&rt, rt.alloc(), "again", &WITHOUT_TEXT);
+    check_rows(&rt, rt.alloc(), "present", &NO_TYPES);
+    check_rows(&rt, rt.alloc(), "list", &NO_LISTS);
 }
 
 #[test]
-fn truths_of_filters(rt: HostRuntime) -> Result<(), Fail> {
-    check_rows(&rt, rt.alloc(), "pair", &PAIRS)?;
-    check_rows(&rt, rt.alloc(), "truth", &TRUTHS)?;
-    check_rows(&rt, rt.alloc(), "extensible", &NO_TRUTHS)
+fn truths_of_filters(rt: HostRuntime) {
+    check_rows(&rt, rt.alloc(), "pair", &PAIRS);
+    check_rows(&rt, rt.alloc(), "truth", &TRUTHS);
+    check_rows(&rt, rt.alloc(), "extensible", &NO_TRUTHS);
 }
 
-fn check_rows(rt: &impl Abort, alloc: Global, word: &str, rows: &[Row]) -> Result<(), Fail> {
+fn check_rows(rt: &impl Abort, alloc: Global, word: &str, rows: &[Row]) {
     for (asked, wanted) in rows {
-        let reported = reported(alloc, word, asked)?;
+        let reported = or_fault(alloc, reported(alloc, word, asked)).expect(rt, asked);
         assert_same(rt, asked, &reported.as_str(), wanted);
     }
-    Ok(())
 }
 
-fn check_bytes(rt: &impl Abort, alloc: Global) -> Result<(), Fail> {
+fn check_bytes(rt: &impl Abort, alloc: Global) {
     for (bytes, wanted) in &NO_TEXTS {
-        match read(alloc, bytes) {
-            Ok(_) => return Err(Fail::from("no fault")),
-            Err(fault) => {
-                let reported = format!(in alloc; "{fault:?}")?;
-                assert_same(rt, "bytes", &reported.as_str(), wanted);
-            }
-        }
+        let reported = or_fault(alloc, read(alloc, bytes)).expect(rt, "bytes");
+        assert_same(rt, "bytes", &reported.as_str(), wanted);
     }
-    Ok(())
 }
 
 /// What is reported of the text, or the fault that refuses it.
-fn reported(alloc: Global, word: &str, text: &str) -> Result<String, Fail> {
-    let reported = match word {
+fn reported(alloc: Global, word: &str, text: &str) -> Result<String, FilterFault> {
+    match word {
         "again" => again(alloc, text),
         "nested" => nested(alloc, text),
         "long" => long(alloc, text),
-        "present" => written(alloc, Filter::Present(octets(alloc, text)?)),
-        "list" => written(alloc, list_of_extensible(alloc)?),
+        "present" => presence_written(alloc, text),
+        "list" => list_written(alloc),
         "pair" => pair(alloc, text),
-        "truth" => truth(alloc, Filter::read_text(alloc, text.as_bytes())?),
-        "extensible" => truth(alloc, Filter::Extensible(octets(alloc, "")?)),
+        "truth" => truth_of_text(alloc, text),
+        "extensible" => truth_of_extensible(alloc),
         _ => read(alloc, text.as_bytes()),
-    };
-    match reported {
-        Ok(reported) => Ok(reported),
-        Err(fault) => Ok(format!(in alloc; "{fault:?}")?),
     }
+}
+
+fn presence_written(alloc: Global, kind: &str) -> Result<String, FilterFault> {
+    let kind = octets(alloc, kind)?;
+    written(alloc, Filter::Present(kind))
+}
+
+fn list_written(alloc: Global) -> Result<String, FilterFault> {
+    let filter = list_of_extensible(alloc)?;
+    written(alloc, filter)
+}
+
+fn truth_of_text(alloc: Global, text: &str) -> Result<String, FilterFault> {
+    let filter = Filter::read_text(alloc, text.as_bytes())?;
+    truth(alloc, filter)
+}
+
+fn truth_of_extensible(alloc: Global) -> Result<String, FilterFault> {
+    let rest = octets(alloc, "")?;
+    truth(alloc, Filter::Extensible(rest))
 }
 
 fn octets(alloc: Global, text: &str) -> Result<Octets, NoMemory> {
@@ -279,7 +287,8 @@ fn copied(alloc: Global, filter: &Filter) -> Result<String, FilterFault> {
     discard(copied);
     let text = text?;
     let is_again = is_same && is_read_as(alloc, text.as_slice(), filter)?;
-    Ok(format!(in alloc; "{is_again} {}", utf8(text.as_slice()))?)
+    let word = if is_again { "true " } else { "false " };
+    Ok(joined(alloc, word, utf8(text.as_slice()))?)
 }
 
 /// Whether the text is read as this filter.
@@ -295,33 +304,38 @@ fn parted(text: &str) -> (&str, &str) {
     text.split_once(' ').unwrap_or((text, ""))
 }
 
-fn repeated(alloc: Global, piece: &str, count: &str) -> Result<String, NoMemory> {
-    let mut text = String::new(alloc);
-    for _ in 0..count.parse::<u64>().unwrap_or(0) {
-        text.push_str(piece)?;
-    }
-    Ok(text)
-}
-
 fn nested(alloc: Global, text: &str) -> Result<String, FilterFault> {
     let (levels, rest) = parted(text);
     let (prefix, item) = parted(rest);
-    let (prefixes, ends) = (
-        repeated(alloc, prefix, levels)?,
-        repeated(alloc, ")", levels)?,
-    );
-    let text = format!(in alloc; "{prefixes}{item}{ends}")?;
+    let text = nested_text(alloc, prefix, levels, item)?;
     read(alloc, text.as_bytes())
+}
+
+/// As many times the prefix, the item, and as many times `)`.
+fn nested_text(alloc: Global, prefix: &str, levels: &str, item: &str) -> Result<String, NoMemory> {
+    let mut text = String::new(alloc);
+    push_times(&mut text, prefix, levels)?;
+    text.push_str(item)?;
+    push_times(&mut text, ")", levels)?;
+    Ok(text)
 }
 
 /// Whether the copy of a long filter is the same, and is written as its text.
 fn long(alloc: Global, text: &str) -> Result<String, FilterFault> {
     let (count, rest) = parted(text);
     let (piece, prefix) = parted(rest);
-    let text = format!(in alloc; "{prefix}{})", repeated(alloc, piece, count)?)?;
+    let text = long_text(alloc, prefix, piece, count)?;
     let again = again(alloc, &text)?;
     let (is_same, written) = parted(&again);
-    Ok(format!(in alloc; "{is_same} {}", written == text.as_str())?)
+    Ok(shown(alloc, &(is_same == "true", written == text.as_str()))?)
+}
+
+/// The prefix, as many times the piece, and `)`.
+fn long_text(alloc: Global, prefix: &str, piece: &str, count: &str) -> Result<String, NoMemory> {
+    let mut text = prefix.to_string(alloc)?;
+    push_times(&mut text, piece, count)?;
+    text.push(')')?;
+    Ok(text)
 }
 
 /// How the filter is written.
@@ -349,7 +363,7 @@ fn compared(alloc: Global, one: &Filter, other: &str) -> Result<String, FilterFa
     let other = Filter::read_text(alloc, other.as_bytes())?;
     let (is_same, is_same_again) = (one.same(&other), other.same(one));
     discard(other);
-    Ok(format!(in alloc; "{is_same} {is_same_again}")?)
+    Ok(shown(alloc, &(is_same, is_same_again))?)
 }
 
 fn attribute(alloc: Global, name: &str, value: &str) -> Result<RawAttribute, NoMemory> {
@@ -380,7 +394,7 @@ fn truth(alloc: Global, filter: Filter) -> Result<String, FilterFault> {
 fn truth_of(alloc: Global, filter: &Filter) -> Result<String, FilterFault> {
     let raw = attributes(alloc)?;
     match Attrs::read(alloc, &raw) {
-        Ok(attrs) => Ok(format!(in alloc; "{:?}", filter.value_on(alloc, &attrs)?)?),
+        Ok(attrs) => Ok(shown(alloc, &filter.value_on(alloc, &attrs)?)?),
         Err(_) => Ok("no entry".to_string(alloc)?),
     }
 }

@@ -1,12 +1,11 @@
 //! Records and texts from outside: after the examples of RFC 2849, and its rules one by one.
-use crate::assertions::{Row, assert_same};
+use crate::assertions::{Row, assert_same, shown};
 use csn_cookie::Csn;
 use ldap_ber::{NoMemory, Octets, OctetsList, discard};
 use ldif_text::{LdifFault, Records, write_entry};
-use schema_rules::{Attrs, Change, EditList, How, RawAttribute, RawList};
+use schema_rules::{Attrs, Change, EditList, How, RawAttribute, RawList, SchemaFault};
 use std::alloc::{AllocError, Global};
 use std::process::Abort;
-use std::test::Fail;
 
 /// Appends the type with its values, as ` cn|a|b`.
 fn push_attribute(text: &mut Vec<u8>, attribute: &RawAttribute) -> Result<(), NoMemory> {
@@ -105,8 +104,7 @@ fn push_fault(alloc: Global, text: &mut Vec<u8>, fault: LdifFault) -> Result<boo
     if fault == LdifFault::NoMemory {
         return Err(AllocError);
     }
-    let shown = format!(in alloc; "{fault:?}")?;
-    text.extend_from_slice(shown.as_bytes())?;
+    text.extend_from_slice(shown(alloc, &fault)?.as_bytes())?;
     Ok(false)
 }
 
@@ -467,41 +465,40 @@ const RULES: [Row; 45] = [
     ),
 ];
 
-fn check_rows(rt: &impl Abort, alloc: Global, rows: &[Row]) -> Result<(), Fail> {
+fn check_rows(rt: &impl Abort, alloc: Global, rows: &[Row]) {
     for (text, wanted) in rows {
-        let found = reported(alloc, text.as_bytes())?;
+        let found = reported(alloc, text.as_bytes()).expect(rt, text);
         assert_same(rt, text, &found.as_slice(), &wanted.as_bytes());
     }
-    Ok(())
 }
 
 #[test]
-fn records(rt: HostRuntime) -> Result<(), Fail> {
-    check_rows(&rt, rt.alloc(), &EXAMPLES)?;
-    check_rows(&rt, rt.alloc(), &RULES)?;
-    check_refusals(&rt, rt.alloc())?;
-    check_million(&rt, rt.alloc())
+fn records(rt: HostRuntime) {
+    check_rows(&rt, rt.alloc(), &EXAMPLES);
+    check_rows(&rt, rt.alloc(), &RULES);
+    check_refusals(&rt, rt.alloc());
+    check_million(&rt, rt.alloc());
 }
 
 /// A refusal changes nothing: what is reported of a text that is read on after it, which begins at
 /// line 7.
 const REFUSED_TWICE: &str = "add a cn|x @8\nBadLine(11)BadLine(11)";
 
-fn check_refusals(rt: &impl Abort, alloc: Global) -> Result<(), Fail> {
+fn check_refusals(rt: &impl Abort, alloc: Global) {
     let mut records = Records::new(b"dn: a\ncn: x\n\ndn: b\ncn\n", 7);
     assert_same(rt, "first line", &records.line(), &7);
+    let reported = three_reported(alloc, &mut records).expect(rt, "memory");
+    let wanted = REFUSED_TWICE.as_bytes();
+    assert_same(rt, "refusals", &reported.as_slice(), &wanted);
+    assert_same(rt, "last line", &records.line(), &8);
+}
+
+fn three_reported(alloc: Global, records: &mut Records) -> Result<Vec<u8>, NoMemory> {
     let mut reported = Vec::new(alloc);
     for _ in 0..3 {
-        push_next(alloc, &mut reported, &mut records)?;
+        push_next(alloc, &mut reported, records)?;
     }
-    assert_same(
-        rt,
-        "refusals",
-        &reported.as_slice(),
-        &REFUSED_TWICE.as_bytes(),
-    );
-    assert_same(rt, "last line", &records.line(), &8);
-    Ok(())
+    Ok(reported)
 }
 
 /// The types and values of an entry.
@@ -567,19 +564,18 @@ fn written(
     name: &[u8],
     lines: Lines,
     operational: Option<(u128, Csn)>,
-) -> Result<Vec<u8>, Fail> {
+) -> Result<Vec<u8>, SchemaFault> {
     let list = raw_list(alloc, lines)?;
     let attrs = Attrs::read(alloc, &list)?;
     Ok(write_entry(alloc, name, &attrs, operational)?)
 }
 
-fn check_marked(rt: &impl Abort, alloc: Global) -> Result<(), Fail> {
-    for (name, lines, uuid, csn, wanted) in &MARKED {
-        let operational = Some((*uuid, Csn::parse(csn)?));
-        let found = written(alloc, name, lines, operational)?;
-        assert_same(rt, "entry", &found.as_slice(), wanted);
-    }
-    Ok(())
+fn check_marked(rt: &impl Abort, alloc: Global, row: &Marked) {
+    let (name, lines, uuid, csn, wanted) = *row;
+    let csn = Csn::parse(csn).expect(rt, "a CSN");
+    let found = written(alloc, name, lines, Some((uuid, csn)));
+    let found = found.expect(rt, "an entry");
+    assert_same(rt, "entry", &found.as_slice(), &wanted);
 }
 
 /// Names, and the lines that they are written on.
@@ -601,23 +597,24 @@ const NAMES: [Row; 15] = [
     ("é", "dn:: w6k=\n\n"),
 ];
 
-fn assert_line(rt: &impl Abort, alloc: Global, name: &[u8], want: &str) -> Result<(), Fail> {
-    let found = written(alloc, name, &[], None)?;
+fn assert_line(rt: &impl Abort, alloc: Global, name: &[u8], want: &str) {
+    let found = written(alloc, name, &[], None).expect(rt, want);
     assert_same(rt, want, &found.as_slice(), &want.as_bytes());
-    Ok(())
 }
 
-fn check_lines(rt: &impl Abort, alloc: Global) -> Result<(), Fail> {
+fn check_lines(rt: &impl Abort, alloc: Global) {
     for (name, wanted) in &NAMES {
-        assert_line(rt, alloc, name.as_bytes(), wanted)?;
+        assert_line(rt, alloc, name.as_bytes(), wanted);
     }
-    assert_line(rt, alloc, b"\xff", "dn:: /w==\n\n")
+    assert_line(rt, alloc, b"\xff", "dn:: /w==\n\n");
 }
 
 #[test]
-fn entries(rt: HostRuntime) -> Result<(), Fail> {
-    check_marked(&rt, rt.alloc())?;
-    check_lines(&rt, rt.alloc())
+fn entries(rt: HostRuntime) {
+    for row in &MARKED {
+        check_marked(&rt, rt.alloc(), row);
+    }
+    check_lines(&rt, rt.alloc());
 }
 
 /// A record of a million lines: comments, values, and what continues those.
@@ -649,9 +646,8 @@ fn first_added(alloc: Global, text: &[u8]) -> Result<(usize, u64), LdifFault> {
     Ok((values, records.line()))
 }
 
-fn check_million(rt: &impl Abort, alloc: Global) -> Result<(), Fail> {
-    let text = million_lines(alloc)?;
-    let found = first_added(alloc, text.as_slice())?;
+fn check_million(rt: &impl Abort, alloc: Global) {
+    let text = million_lines(alloc).expect(rt, "memory");
+    let found = first_added(alloc, text.as_slice()).expect(rt, "a record");
     assert_same(rt, "a million lines", &found, &(333_333, 1_000_000));
-    Ok(())
 }

@@ -1,13 +1,12 @@
 //! The tables, as they are agreed, and what the schema says of attributes and of entries.
 use crate::assertions::assert_same;
-use ldap_ber::{NoMemory, Octets, OctetsList};
+use ldap_ber::{NoMemory, Octets, OctetsList, discard};
 use schema_rules::{
     Attribute, AttributeType, Attrs, RawAttribute, RawList, Rule, SchemaFault, add_values,
     are_of_syntax, check_entry, key_of, keys_of, known_key,
 };
 use std::alloc::{AllocError, Global};
 use std::process::Abort;
-use std::test::Fail;
 use text_keys::KeyFault;
 
 /// The types, how their values are compared, and whether an entry has one value at most.
@@ -118,12 +117,11 @@ fn assert_key(rt: &impl Abort, alloc: Global, kind: AttributeType, value: &[u8],
 }
 
 #[test]
-fn keys_by_the_rules(rt: HostRuntime) -> Result<(), Fail> {
+fn keys_by_the_rules(rt: HostRuntime) {
     for (name, value, key) in &KEYS {
-        let kind = AttributeType::find(name.as_bytes()).ok_or(*name)?;
+        let kind = AttributeType::find(name.as_bytes()).expect(&rt, name);
         assert_key(&rt, rt.alloc(), kind, value, key);
     }
-    Ok(())
 }
 
 /// Types with two values, and the keys of those that have one.
@@ -142,23 +140,37 @@ fn octets_of(alloc: Global, values: &[&[u8]]) -> Result<OctetsList, NoMemory> {
     Ok(list)
 }
 
-#[test]
-fn keys_of_values(rt: HostRuntime) -> Result<(), Fail> {
-    for (name, values, wanted) in &KEYED {
-        let kind = AttributeType::find(name.as_bytes()).ok_or(*name)?;
-        let second = known_key(rt.alloc(), kind, values[1])?;
-        let second = second.as_ref().map(|key| key.as_slice());
-        assert_same(&rt, name, &second, &wanted.last().copied());
-        let values = octets_of(rt.alloc(), values)?;
-        let all = are_of_syntax(rt.alloc(), kind, values.list())?;
-        assert_same(&rt, name, &all, &(wanted.len() == 2));
-        let keys = keys_of(rt.alloc(), kind, values.list())?;
-        assert!(rt;
-            keys.as_slice() == octets_of(rt.alloc(), wanted)?.list(),
-            "{name}"
-        );
+/// The key of the value is the last of those, or there is none.
+fn check_key(rt: &impl Abort, alloc: Global, name: &str, value: &[u8], wanted: &[&[u8]]) {
+    let kind = AttributeType::find(name.as_bytes()).expect(rt, name);
+    let key = known_key(alloc, kind, value).expect(rt, name);
+    assert_same(rt, name, &bytes_of(&key), &wanted.last().copied());
+}
+
+fn bytes_of(key: &Option<Octets>) -> Option<&[u8]> {
+    match key {
+        Some(key) => Some(key.as_slice()),
+        None => None,
     }
-    Ok(())
+}
+
+/// The keys of the values are those, and both values have one where there are two.
+fn check_keys(rt: &impl Abort, alloc: Global, name: &str, values: &[Octets], wanted: &[&[u8]]) {
+    let kind = AttributeType::find(name.as_bytes()).expect(rt, name);
+    let all = are_of_syntax(alloc, kind, values).expect(rt, name);
+    assert_same(rt, name, &all, &(wanted.len() == 2));
+    let keys = keys_of(alloc, kind, values).expect(rt, name);
+    let wanted = octets_of(alloc, wanted).expect(rt, name);
+    assert!(rt; keys.as_slice() == wanted.list());
+}
+
+#[test]
+fn keys_of_values(rt: HostRuntime) {
+    for (name, values, wanted) in &KEYED {
+        check_key(&rt, rt.alloc(), name, values[1], wanted);
+        let values = octets_of(rt.alloc(), values).expect(&rt, name);
+        check_keys(&rt, rt.alloc(), name, values.list(), wanted);
+    }
 }
 
 /// Types, and values that are put after those of the type.
@@ -168,25 +180,30 @@ const ADDED: [(&str, &[&[u8]]); 3] = [
     ("cn", &[b"c", b"a"]),
 ];
 
-fn added(alloc: Global, rows: &[(&str, &[&[u8]])]) -> Result<Vec<Attribute>, Fail> {
+fn added(rt: &impl Abort, alloc: Global, rows: &[(&str, &[&[u8]])]) -> Vec<Attribute> {
     let mut attributes = Vec::new(alloc);
     for (name, values) in rows {
-        let kind = AttributeType::find(name.as_bytes()).ok_or(*name)?;
-        let values = octets_of(alloc, values)?;
-        add_values(&mut attributes, kind, values)?;
+        let kind = AttributeType::find(name.as_bytes()).expect(rt, name);
+        let values = octets_of(alloc, values).expect(rt, name);
+        add_values(&mut attributes, kind, values).expect(rt, name);
     }
-    Ok(attributes)
+    attributes
 }
 
 #[test]
-fn values_added(rt: HostRuntime) -> Result<(), Fail> {
-    let mut line = Vec::new(rt.alloc());
-    for attribute in &added(rt.alloc(), &ADDED)? {
-        push_attribute(&mut line, &attribute.copy()?)?;
-    }
+fn values_added(rt: HostRuntime) {
+    let attributes = added(&rt, rt.alloc(), &ADDED);
+    let line = line_of_copies(rt.alloc(), &attributes).expect(&rt, "memory");
     let wanted = b"cn=a|cn=c|cn=a|sn=b|sn=A".as_slice();
     assert_same(&rt, "added", &line.as_slice(), &wanted);
-    Ok(())
+}
+
+fn line_of_copies(alloc: Global, attributes: &[Attribute]) -> Result<Vec<u8>, NoMemory> {
+    let mut line = Vec::new(alloc);
+    for attribute in attributes {
+        push_attribute(&mut line, &attribute.copy()?)?;
+    }
+    Ok(line)
 }
 
 /// The attribute of `type=value`, or of `type` alone.
@@ -313,12 +330,12 @@ fn attributes_read(rt: HostRuntime) {
 }
 
 #[test]
-fn weights(rt: HostRuntime) -> Result<(), Fail> {
+fn weights(rt: HostRuntime) {
     assert_same(&rt, "nothing", &Attrs::new(rt.alloc()).weight(), &0);
-    let attrs = read(rt.alloc(), "cn=Ann|CN=Ann Lee|telephoneNumber=1-2")?;
+    let line = "cn=Ann|CN=Ann Lee|telephoneNumber=1-2";
+    let attrs = read(rt.alloc(), line).expect(&rt, line);
     let wanted = (2 + 3) + (2 + 7) + (15 + 3);
     assert_same(&rt, "three values", &attrs.weight(), &wanted);
-    Ok(())
 }
 
 /// Entries, and what the schema says of each.
@@ -394,12 +411,11 @@ const ENTRIES: [(&str, Result<(), SchemaFault>); 20] = [
 ];
 
 #[test]
-fn entries_checked(rt: HostRuntime) -> Result<(), Fail> {
+fn entries_checked(rt: HostRuntime) {
     for (line, wanted) in &ENTRIES {
-        let attrs = read(rt.alloc(), line)?;
+        let attrs = read(rt.alloc(), line).expect(&rt, line);
         assert_same(&rt, line, &check_entry(rt.alloc(), &attrs), wanted);
     }
-    Ok(())
 }
 
 /// How a class may stand in an entry.
@@ -604,12 +620,12 @@ fn check_asked(rt: &impl Abort, alloc: Global, given: &Given) {
 }
 
 #[test]
-fn types_that_classes_ask_for(rt: HostRuntime) -> Result<(), Fail> {
+fn types_that_classes_ask_for(rt: HostRuntime) {
     for (class, kind, _, _, _) in &CLASSES {
-        let given = Given::of(rt.alloc(), class, *kind)?;
+        let given = Given::of(rt.alloc(), class, *kind).expect(&rt, class);
         check_asked(&rt, rt.alloc(), &given);
+        discard(given);
     }
-    Ok(())
 }
 
 /// What the schema says of an entry of these classes with this type beside what they ask for.
@@ -633,12 +649,12 @@ fn check_allowed(rt: &impl Abort, alloc: Global, given: &Given) {
 }
 
 #[test]
-fn types_that_classes_allow(rt: HostRuntime) -> Result<(), Fail> {
+fn types_that_classes_allow(rt: HostRuntime) {
     for (class, kind, _, _, _) in &CLASSES {
-        let given = Given::of(rt.alloc(), class, *kind)?;
+        let given = Given::of(rt.alloc(), class, *kind).expect(&rt, class);
         check_allowed(&rt, rt.alloc(), &given);
+        discard(given);
     }
-    Ok(())
 }
 
 /// What the schema says of an entry of this class alone.

@@ -1,19 +1,22 @@
 //! Configurations that are read, and those that are refused.
-use crate::assertions::{Row, assert_same, utf8};
+use crate::assertions::{Row, assert_same, joined, shown, utf8};
 use dn_names::Dn;
-use ldap_ber::NoMemory;
+use ldap_ber::{NoMemory, discard};
 use std::alloc::{AllocError, Global};
 use std::process::Abort;
 use std::test::Fail;
-use sync_config::{Config, ConfigFault, ConfigText};
+use sync_config::{Config, ConfigFault, ConfigText, Upstream};
 
 /// What answers a configuration: `read`, or the fault with its key.
 fn answer(alloc: Global, text: &[u8]) -> Result<String, AllocError> {
     match Config::read(alloc, text) {
-        Ok(_) => String::from_str(alloc, "read"),
+        Ok(config) => {
+            discard(config);
+            String::from_str(alloc, "read")
+        }
         Err(ConfigFault::NotToml) => String::from_str(alloc, "NotToml"),
-        Err(ConfigFault::MissingKey(key)) => format!(in alloc; "MissingKey {}", key.as_str()),
-        Err(ConfigFault::BadValue(key)) => format!(in alloc; "BadValue {}", key.as_str()),
+        Err(ConfigFault::MissingKey(key)) => joined(alloc, "MissingKey ", key.as_str()),
+        Err(ConfigFault::BadValue(key)) => joined(alloc, "BadValue ", key.as_str()),
         Err(ConfigFault::NoMemory) => Err(AllocError),
     }
 }
@@ -75,14 +78,24 @@ const MORE: [Row; 44] = [
     ("sid = 1\nsid = 1", "NotToml"),
 ];
 
-#[test]
-fn keys_are_judged(rt: HostRuntime) -> Result<(), Fail> {
-    for (more, wanted) in &MORE {
-        let text = format!(in rt.alloc(); "{LEAST}{more}")?;
-        let found = answer(rt.alloc(), text.as_bytes())?;
-        assert_same(&rt, more, &found.as_str(), wanted);
+/// Asserts that each row has its answer, after these lines.
+fn assert_answers(
+    rt: &impl Abort,
+    alloc: Global,
+    before: &str,
+    rows: &[Row],
+) -> Result<(), AllocError> {
+    for (more, wanted) in rows {
+        let text = joined(alloc, before, more)?;
+        let found = answer(alloc, text.as_bytes())?;
+        assert_same(rt, more, &found.as_str(), wanted);
     }
     Ok(())
+}
+
+#[test]
+fn keys_are_judged(rt: HostRuntime) {
+    assert_answers(&rt, rt.alloc(), LEAST, &MORE).expect(&rt, "memory");
 }
 
 /// Whole texts, and the answer.
@@ -159,18 +172,10 @@ const UPSTREAMS: [Row; 12] = [
 ];
 
 #[test]
-fn upstreams_are_judged(rt: HostRuntime) -> Result<(), Fail> {
-    for (more, wanted) in &FOLLOWING {
-        let text = format!(in rt.alloc(); "{UPSTREAM}{more}")?;
-        let found = answer(rt.alloc(), text.as_bytes())?;
-        assert_same(&rt, more, &found.as_str(), wanted);
-    }
-    for (table, wanted) in &UPSTREAMS {
-        let text = format!(in rt.alloc(); "listen = 'a'\n[upstream]\n{table}")?;
-        let found = answer(rt.alloc(), text.as_bytes())?;
-        assert_same(&rt, table, &found.as_str(), wanted);
-    }
-    Ok(())
+fn upstreams_are_judged(rt: HostRuntime) {
+    let alloc = rt.alloc();
+    assert_answers(&rt, alloc, UPSTREAM, &FOLLOWING).expect(&rt, "memory");
+    assert_answers(&rt, alloc, "listen = 'a'\n[upstream]\n", &UPSTREAMS).expect(&rt, "memory");
 }
 
 /// Whole texts with two keys that are refused, of which the later one stands first, and the answer.
@@ -211,26 +216,17 @@ const PAIRS: [Row; 10] = [
     ),
 ];
 
-fn assert_answers(rt: &impl Abort, alloc: Global, rows: &[Row]) -> Result<(), AllocError> {
-    for (text, wanted) in rows {
-        let found = answer(alloc, text.as_bytes())?;
-        assert_same(rt, text, &found.as_str(), wanted);
-    }
-    Ok(())
+#[test]
+fn the_first_refused_key_is_reported(rt: HostRuntime) {
+    assert_answers(&rt, rt.alloc(), "", &WHOLE).expect(&rt, "memory");
+    assert_answers(&rt, rt.alloc(), "", &PAIRS).expect(&rt, "memory");
 }
 
 #[test]
-fn the_first_refused_key_is_reported(rt: HostRuntime) -> Result<(), Fail> {
-    assert_answers(&rt, rt.alloc(), &WHOLE)?;
-    assert_answers(&rt, rt.alloc(), &PAIRS)?;
-    Ok(())
-}
-
-#[test]
-fn other_bytes_are_no_toml(rt: HostRuntime) -> Result<(), Fail> {
-    let found = answer(rt.alloc(), b"listen = '\xff'\nsuffix = 'dc=x'")?;
+fn other_bytes_are_no_toml(rt: HostRuntime) {
+    let found = answer(rt.alloc(), b"listen = '\xff'\nsuffix = 'dc=x'");
+    let found = found.expect(&rt, "memory");
     assert_same(&rt, "octet ff", &found.as_str(), &"NotToml");
-    Ok(())
 }
 
 /// The name as it is written, or `none`.
@@ -250,22 +246,23 @@ fn text_of(text: &Option<ConfigText>) -> &str {
 }
 
 /// All that was read, in the order of the keys.
-fn shown(alloc: Global, config: &Config) -> Result<String, NoMemory> {
+fn config_shown(alloc: Global, config: &Config) -> Result<String, NoMemory> {
+    let first = first_shown(alloc, config)?;
+    let last = last_shown(alloc, config)?;
+    joined(alloc, &first, &last)
+}
+
+fn first_shown(alloc: Global, config: &Config) -> Result<String, NoMemory> {
     let suffix = written(alloc, &config.suffix)?;
-    let bind_name = written(alloc, &config.bind_name)?;
-    format!(in alloc;
-        "{} {} {} {} {} {} {} {} {} {}",
-        config.listen.as_str(),
-        suffix.as_str(),
-        config.sid,
-        text_of(&config.ldif),
-        config.log_limit,
-        config.queue_limit,
-        bind_name.as_str(),
-        text_of(&config.bind_password),
-        config.seats,
-        config.connections
-    )
+    let (listen, ldif) = (config.listen.as_str(), text_of(&config.ldif));
+    shown(alloc, &(listen, suffix.as_str(), config.sid, ldif))
+}
+
+fn last_shown(alloc: Global, config: &Config) -> Result<String, NoMemory> {
+    let name = written(alloc, &config.bind_name)?;
+    let limits = (config.log_limit, config.queue_limit);
+    let access = (name.as_str(), text_of(&config.bind_password));
+    shown(alloc, &(limits, access, config.seats, config.connections))
 }
 
 /// The lines of `examples/serve.toml` but for its comments.
@@ -284,66 +281,88 @@ connections = 0
 
 /// Texts, and all that is read of them.
 const READ: [Row; 4] = [
-    (LEAST, "localhost:3890 dc=x 0 none 1000 4096 none none 16 0"),
+    (
+        LEAST,
+        r#"("localhost:3890", "dc=x", 0, "none")((1000, 4096), ("none", "none"), 16, 0)"#,
+    ),
     (
         "listen = \"localhost:3890\"\nsuffix = \"dc=x\"\nconnections = 2\n",
-        "localhost:3890 dc=x 0 none 1000 4096 none none 16 2",
+        r#"("localhost:3890", "dc=x", 0, "none")((1000, 4096), ("none", "none"), 16, 2)"#,
     ),
     (
         "bind_password = ' b '\nbind_name = 'CN = a'\nsid = 0x10\nsuffix = 'OU=b,DC=x'\n\
          listen = '[::1]:389'",
-        "[::1]:389 ou=b,dc=x 16 none 1000 4096 cn=a  b  16 0",
+        r#"("[::1]:389", "ou=b,dc=x", 16, "none")((1000, 4096), ("cn=a", " b "), 16, 0)"#,
     ),
     (
         EXAMPLE,
-        "localhost:3890 dc=example,dc=org 1 examples/serve.ldif 10000 4000 \
-         cn=admin,dc=example,dc=org secret 32 0",
+        "(\"localhost:3890\", \"dc=example,dc=org\", 1, \"examples/serve.ldif\")\
+         ((10000, 4000), (\"cn=admin,dc=example,dc=org\", \"secret\"), 32, 0)",
     ),
 ];
 
+// A configuration is dropped by `discard`, in one call, before anything else is looked at.
+
+fn assert_read(rt: &impl Abort, alloc: Global, text: &str, wanted: &str) {
+    let config = Config::read(alloc, text.as_bytes()).expect(rt, text);
+    let found = config_shown(alloc, &config);
+    discard(config);
+    let found = found.expect(rt, "memory");
+    assert_same(rt, text, &found.as_str(), &wanted);
+}
+
 #[test]
-fn keys_have_the_values_of_their_lines(rt: HostRuntime) -> Result<(), Fail> {
+fn keys_have_the_values_of_their_lines(rt: HostRuntime) {
     for (text, wanted) in &READ {
-        let config = Config::read(rt.alloc(), text.as_bytes())?;
-        let found = shown(rt.alloc(), &config)?;
-        assert_same(&rt, text, &found.as_str(), wanted);
+        assert_read(&rt, rt.alloc(), text, wanted);
     }
-    Ok(())
 }
 
 /// All that was read of an upstream, in the order of its keys, or `none`.
 fn upstream_shown(alloc: Global, config: &Config) -> Result<String, Fail> {
-    let Some(upstream) = &config.upstream else {
-        return Ok(String::from_str(alloc, "none")?);
-    };
+    match &config.upstream {
+        Some(upstream) => followed(alloc, upstream, config.rounds),
+        None => Ok(String::from_str(alloc, "none")?),
+    }
+}
+
+fn followed(alloc: Global, upstream: &Upstream, rounds: u64) -> Result<String, Fail> {
     let base = upstream.spec.base.write()?;
     let filter = upstream.spec.filter.write_text(alloc)?;
-    let text = format!(in alloc;
-        "{} {} {:?} {} {} {}",
-        upstream.address.as_str(),
+    let spec = (
         utf8(base.as_slice()),
         upstream.spec.scope,
         utf8(filter.as_slice()),
-        upstream.reload_hint,
-        config.rounds
-    )?;
-    Ok(text)
+    );
+    let address = upstream.address.as_str();
+    Ok(shown(alloc, &(address, spec, upstream.reload_hint, rounds))?)
 }
+
+/// What is read of an upstream from these lines.
+fn upstream_read(alloc: Global, lines: &str) -> Result<String, Fail> {
+    let config = Config::read(alloc, lines.as_bytes())?;
+    let found = upstream_shown(alloc, &config);
+    discard(config);
+    found
+}
+
+/// Lines, those after them, and all that is read of an upstream from both.
+const FOLLOWED: [(&str, &str, &str); 3] = [
+    (UPSTREAM, "", r#"("b", ("dc=x", Sub, "(ou=*)"), false, 0)"#),
+    (
+        UPSTREAM,
+        "reload_hint = true\nrounds = 7",
+        r#"("b", ("dc=x", Sub, "(ou=*)"), true, 7)"#,
+    ),
+    (LEAST, "", "none"),
+];
 
 #[test]
 fn an_upstream_has_the_values_of_its_lines(rt: HostRuntime) -> Result<(), Fail> {
-    let rows = [
-        ("", "b dc=x Sub (ou=*) false 0"),
-        ("reload_hint = true\nrounds = 7", "b dc=x Sub (ou=*) true 7"),
-    ];
-    for (more, wanted) in &rows {
-        let text = format!(in rt.alloc(); "{UPSTREAM}{more}")?;
-        let config = Config::read(rt.alloc(), text.as_bytes())?;
-        let found = upstream_shown(rt.alloc(), &config)?;
-        assert_same(&rt, more, &found.as_str(), wanted);
+    for (lines, more, wanted) in &FOLLOWED {
+        let text = joined(rt.alloc(), lines, more)?;
+        let found = upstream_read(rt.alloc(), &text)?;
+        assert_same(&rt, &text, &found.as_str(), wanted);
     }
-    let config = Config::read(rt.alloc(), LEAST.as_bytes())?;
-    let found = upstream_shown(rt.alloc(), &config)?;
-    assert_same(&rt, "no table", &found.as_str(), &"none");
     Ok(())
 }

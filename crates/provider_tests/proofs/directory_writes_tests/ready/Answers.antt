@@ -7,8 +7,8 @@ use Rattle.directory_writes.specs.declared.preview.Preview.{Preview}
 use Rattle.directory_writes.proofs.Commits.{next_of_plan}
 use Rattle.provider_tests.proofs.directory_writes_tests.ready.Goals as goal
 
-pub ready-requires : goal.ready-requires
-ready-requires c =
+pub ready-ready-requires : goal.ready-ready-requires
+ready-ready-requires c =
     let s : StandingState = c.args.standing.now in
     let puts : List Entry = c.in_ok-puts.puts in
     let drops : List ℕ = c.in_ok-drops.drops in

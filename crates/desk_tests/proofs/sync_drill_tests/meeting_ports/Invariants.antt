@@ -1,6 +1,6 @@
 use Rattle.std.proofs.Common.{◌≡◌, ◌++◌}
 use Rattle.std.specs.List.{AllZip}
-use Rattle.drill_tests.proofs.sync_drill_tests.meeting_ports.Given as goal
+use Rattle.desk_tests.proofs.sync_drill_tests.meeting_ports.Given as goal
 
 -- the ports round those so far
 abbrev pub invariant-loop-port : goal.invariant-loop-port

@@ -1,5 +1,5 @@
 use Rattle.std.proofs.Common.{arith}
-use Rattle.drill_tests.proofs.sync_drill_tests.drilled_meeting.Goals as goal
+use Rattle.desk_tests.proofs.sync_drill_tests.drilled_meeting.Goals as goal
 
 pub overflow_add-count : goal.overflow_add-count
 overflow_add-count g c = omega (arith, c.requires.plan.writers.1, c.requires.plan.consumers.1)

@@ -2,7 +2,7 @@ use Rattle.std.proofs.Common.{◌≡◌, [], ◌∷◌, ◌++◌, ap, sym, ◌�
 use Rattle.std.specs.List.{AllZip}
 use Rattle.std.proofs.lemmas.Slice.Zip.{all_zipped_more}
 use Rattle.sync_drill.proofs.Lists.{all_given, one_given}
-use Rattle.drill_tests.proofs.sync_drill_tests.meeting_ports.Goals as goal
+use Rattle.desk_tests.proofs.sync_drill_tests.meeting_ports.Goals as goal
 
 pub loop-port-init : goal.loop-port-init
 loop-port-init g c = record {

@@ -1,5 +1,5 @@
 use Rattle.std.proofs.Common.{arith}
-use Rattle.drill_tests.proofs.sync_drill_tests.writers_work_beside_each_other.Goals as goal
+use Rattle.desk_tests.proofs.sync_drill_tests.writers_work_beside_each_other.Goals as goal
 
 pub drilled_meeting-requires-clause-plan : goal.drilled_meeting-requires-clause-plan
 drilled_meeting-requires-clause-plan c κs within = record {

@@ -13,14 +13,14 @@ use Rattle.shared_directory.proofs.Sent.{desk_send}
 use Rattle.sync_provider.specs.Ports.{PortState}
 use Rattle.sync_drill.proofs.Lists.{each-zip}
 use Rattle.sync_drill.specs.Drilled.{AreFresh, IsFreshPort}
-use Rattle.drill_tests.specs.contracts.meeting_port.Meeting as Meeting
-use Rattle.drill_tests.specs.contracts.meeting_port.MeetingPort as MeetingPort
-use Rattle.drill_tests.specs.contracts.meeting_port.Role as Role
+use Rattle.desk_tests.specs.contracts.meeting_port.Meeting as Meeting
+use Rattle.desk_tests.specs.contracts.meeting_port.MeetingPort as MeetingPort
+use Rattle.desk_tests.specs.contracts.meeting_port.Role as Role
 use Rattle.drill_directory.proofs.FreshPorts.{all_fresh}
-use Rattle.drill_tests.proofs.meeting_port.Meeting.TheSendSync as meetings
-use Rattle.drill_tests.proofs.meeting_port.Role.TheSendSync as roles
-use Rattle.drill_tests.proofs.sync_drill_tests.drilled_meeting_at.Goals as goal
-use Rattle.drill_tests.proofs.sync_drill_tests.drilled_meeting_at.Lts as lts
+use Rattle.desk_tests.proofs.meeting_port.Meeting.TheSendSync as meetings
+use Rattle.desk_tests.proofs.meeting_port.Role.TheSendSync as roles
+use Rattle.desk_tests.proofs.sync_drill_tests.drilled_meeting_at.Goals as goal
+use Rattle.desk_tests.proofs.sync_drill_tests.drilled_meeting_at.Lts as lts
 
 -- ports that know what fresh ones know are fresh
 fresh_again : {P W H : Type 0} (home : P → H) (state : P → PortState) (around : W → H) (around_state : W → PortState) (ports : List P) (rounds : List W)
