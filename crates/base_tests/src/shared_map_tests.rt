@@ -35,12 +35,67 @@ map put 1 10;put 2 20;copy;remove 1;values;old => ok,ok,ok,ok,[20],[10, 20],
 # A pair of the copy comes in, and then each has its own changes
 map put 1 10;copy;put 1 11;share 1;values;old => ok,ok,ok,ok,[10],[10],
 map put 1 10;put 2 20;copy;remove 2;share 2;put 2 21;values;old => ok,ok,ok,ok,ok,ok,[10, 21],[10, 20],
-map put 3 30;copy;remove 3;share 1;len;share 4;values;old => ok,ok,ok,ok,1,None,[30],[30],
+map put 3 30;copy;remove 3;share 2;share 3;len;share 4;values;old => ok,ok,ok,None,ok,1,None,[30],[30],
 ";
 
 #[test]
 fn calls_of_a_map(rt: HostRuntime) {
     check_rows(&rt, rt.alloc(), ROWS);
+}
+
+type Places = SharedMap<Vec<u8>, u64>;
+
+/// Keys, what keys are asked for to begin with, and the places of those that do, in their order.
+const BEGINNINGS: [(&str, &str, &str); 9] = [
+    ("b a ab abc ac", "ab", "[2, 3]"),
+    ("b a ab abc ac", "a", "[1, 2, 3, 4]"),
+    ("b a ab abc ac", "", "[1, 2, 3, 4, 0]"),
+    ("b a ab abc ac", "abd", "[]"),
+    ("b a ab abc ac", "b", "[0]"),
+    ("ad abz abc abb aba aaz", "ab", "[4, 3, 2, 1]"),
+    ("a", "aa", "[]"),
+    (
+        "aaaaaaaab aaaaaaaaac aaaaaaaa b aaaaaaab",
+        "aaaaaaaa",
+        "[2, 1, 0]",
+    ),
+    (
+        "aaaaaaaab aaaaaaaaac aaaaaaaa b aaaaaaab",
+        "",
+        "[2, 1, 0, 4, 3]",
+    ),
+];
+
+#[test]
+fn keys_that_begin_alike(rt: HostRuntime) {
+    for (keys, beginning, wanted) in &BEGINNINGS {
+        check_beginning(&rt, rt.alloc(), keys, beginning, wanted);
+    }
+}
+
+fn check_beginning(rt: &impl Abort, alloc: Global, keys: &str, beginning: &str, wanted: &str) {
+    let found = places_within(alloc, keys, beginning).expect(rt, "some values");
+    assert_same(rt, beginning, &found.as_str(), &wanted);
+}
+
+fn places_within(alloc: Global, keys: &str, beginning: &str) -> Result<String, AllocError> {
+    let mut map = SharedMap::new(alloc);
+    let done = put_places(alloc, &mut map, keys);
+    let text = values_shown(alloc, map.values_within(beginning.as_bytes()));
+    discard(map);
+    done?;
+    text
+}
+
+fn put_places(alloc: Global, map: &mut Places, keys: &str) -> Result<(), AllocError> {
+    let mut place = 0u64;
+    for key in keys.split(' ') {
+        let mut text = Vec::new(alloc);
+        text.extend_from_slice(key.as_bytes())?;
+        map.insert(text, place)?;
+        place = place.wrapping_add(1);
+    }
+    Ok(())
 }
 
 /// Steps through the keys below 20,000 that lead to each of them: up, down, and to and fro.
@@ -57,14 +112,18 @@ fn check_ways(rt: &impl Abort, alloc: Global, step: u64) {
     let mut map = SharedMap::new(alloc);
     fill(&mut map, step).expect(rt, "20,000 keys");
     assert_short(rt, &map, 20_000);
+    // Other values take the places of these.
+    fill(&mut map, step).expect(rt, "the same keys");
+    assert_short(rt, &map, 20_000);
     drain_half(&mut map).expect(rt, "10,000 keys");
     assert_short(rt, &map, 10_000);
     discard(map);
 }
 
-/// The map has as many keys, and no long way down.
+/// The map has as many keys, of which 10,000 need 14 levels, and no long way down.
 fn assert_short(rt: &impl Abort, map: &Numbers, count: usize) {
     assert_same(rt, "keys", &map.len(), &count);
+    assert!(rt; map.height() >= 14);
     assert!(rt; map.height() < 32);
 }
 
@@ -142,9 +201,9 @@ fn copy(map: &Numbers, old: &mut Numbers) -> Result<(), AllocError> {
     Ok(())
 }
 
-/// Puts the first pair of the other map in whose key is not below this one.
+/// Puts the pair of the other map at the key in, where there is one.
 fn share(alloc: Global, map: &mut Numbers, old: &Numbers, key: u64) -> Result<String, AllocError> {
-    match old.pair_from(&key) {
+    match old.pair_at(&key) {
         Some(pair) => done(alloc, map.insert_shared(pair)),
         None => "None".to_string(alloc),
     }

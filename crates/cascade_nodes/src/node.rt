@@ -16,11 +16,21 @@ use sync_consumer::Consumer;
 use sync_provider::Kind;
 
 /// The directory of a root or of a replica, and notes of a replica's commits.
-#[derive(Drop)]
 pub struct ProviderNode {
     pub name: Octets,
     pub provider: ScriptProvider,
     pub notes: CommitOrigins,
+}
+
+/// A call of its own, so that what drops a node is one step.
+impl Drop for ProviderNode {
+    fn drop(self) {
+        let ProviderNode {
+            name: _name,
+            provider: _provider,
+            notes: _notes,
+        } = self;
+    }
 }
 
 impl ProviderNode {
@@ -67,13 +77,25 @@ impl ProviderNode {
 
 /// A consumer with its provider's name, its copy, its link, and the number of the search that is
 /// open for it at its provider.
-#[derive(Drop)]
 pub struct ConsumerNode {
     pub name: Octets,
     pub source: Octets,
     pub consumer: DigestedConsumer,
     pub link: Link,
     pub search: Option<u64>,
+}
+
+/// A call of its own, so that what drops a node is one step.
+impl Drop for ConsumerNode {
+    fn drop(self) {
+        let ConsumerNode {
+            name: _name,
+            source: _source,
+            consumer: _consumer,
+            link: _link,
+            search: _,
+        } = self;
+    }
 }
 
 impl ConsumerNode {

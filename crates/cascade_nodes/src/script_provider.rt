@@ -30,9 +30,17 @@ use sync_provider::{
 pub const MESSAGE_ID: u32 = 1;
 
 /// A provider whose searches have the message ID of a script's messages.
-#[derive(Drop)]
 pub struct ScriptProvider {
     provider: SyncDirectory,
+}
+
+/// A call of its own, so that what drops a provider is one step.
+impl Drop for ScriptProvider {
+    fn drop(self) {
+        let ScriptProvider {
+            provider: _provider,
+        } = self;
+    }
 }
 
 impl Model for ScriptProvider {

@@ -23,13 +23,23 @@ use sync_messages::Mode;
 
 /// A consumer, and how far the text of its entries is digested (SHA-256). What is digested is kept
 /// as long as those entries stay, so that only what comes after them is digested anew.
-#[derive(Drop)]
 pub struct DigestedConsumer {
     consumer: Consumer,
     /// Has taken the text of the entries up to this identity.
     hasher: Sha256,
     /// Nothing where it has taken none.
     reached: Option<u128>,
+}
+
+/// A call of its own, so that what drops a consumer is one step.
+impl Drop for DigestedConsumer {
+    fn drop(self) {
+        let DigestedConsumer {
+            consumer: _consumer,
+            hasher: _hasher,
+            reached: _,
+        } = self;
+    }
 }
 
 /// Contracts see the consumer.

@@ -27,7 +27,7 @@ use Rattle.directory_writes.specs.Directory.{DirectoryState, entries_after, entr
 use Rattle.directory_writes.specs.Formed.{IsFormed}
 use Rattle.directory_writes.specs.Ready.{IsReadyWrite}
 use Rattle.directory_writes.specs.Standing.{StandingState, fresh_standing, standing_after, LeadsTo}
-use Rattle.directory_writes.specs.Touches.{Numbers, uuids_of, noted_each, all_notes, IsLogged, renewed}
+use Rattle.directory_writes.specs.Touches.{Numbers, uuids_of, noted_each, all_notes, IsLogged, numbers_after, numbers_from, renewed}
 use Rattle.directory_writes.specs.declared.preview.Preview.{Preview}
 use Rattle.directory_writes.specs.declared.ready.Ready.{Ready}
 use Rattle.directory_writes.specs.Weights.{op_weight, kept_weight}
@@ -64,6 +64,31 @@ pub entries_after-none : (history : ℕ) → entries_after history [] ≡ []
 unfolding state_from
 entries_after-none history = refl
 
+numbers_from-push : (history : ℕ) (entries : List Entry) (before : ℕ) (numbers : Numbers) (writes : List Write) (write : Write)
+    → numbers_from history entries before numbers (writes ++ write ∷ [])
+    ≡ renewed (is_commit write.op) (before + length writes + 1) (numbers_from history entries before numbers writes)
+    (touched (state_from history entries before writes) (state_from history entries before (writes ++ write ∷ [])))
+unfolding numbers_from state_from
+numbers_from-push history entries before numbers [] write =
+    let number : before + 1 ≡ before + 0 + 1 = omega arith in
+    ap (λ n. renewed (is_commit write.op) n numbers (touched entries (effect entries write.op (identity history (before + 1)) write.csn))) number
+numbers_from-push history entries before numbers (first ∷ writes) write =
+    let number : before + 1 + length writes + 1 ≡ before + length (first ∷ writes) + 1 = omega arith in
+    let next = effect entries first.op (identity history (before + 1)) first.csn in
+    let kept = renewed (is_commit first.op) (before + 1) numbers (touched entries next) in
+    numbers_from-push history next (before + 1) kept writes write
+    ∙ ap (λ n. renewed (is_commit write.op) n (numbers_from history next (before + 1) kept writes)
+    (touched (state_from history next (before + 1) writes) (state_from history next (before + 1) (writes ++ write ∷ [])))) number
+
+-- the numbers after one more write are those before it, renewed by what it touches
+pub numbers_after-push : (history : ℕ) (writes : List Write) (write : Write)
+    → numbers_after history (writes ++ write ∷ [])
+    ≡ renewed (is_commit write.op) (length writes + 1) (numbers_after history writes) (touched (entries_after history writes) (entries_after history (writes ++ write ∷ [])))
+numbers_after-push history writes write =
+    let number : 0 + length writes + 1 ≡ length writes + 1 = omega arith in
+    numbers_from-push history [] 0 [] writes write
+    ∙ ap (λ n. renewed (is_commit write.op) n (numbers_after history writes) (touched (entries_after history writes) (entries_after history (writes ++ write ∷ [])))) number
+
 -- one write more weighs more by its own weight
 pub kept_weight-push : (writes : List Write) (write : Write) → kept_weight (writes ++ write ∷ []) ≡ kept_weight writes + op_weight write.op
 kept_weight-push writes write = omega (arith, sum_by-append (λ (w : Write). op_weight w.op) writes (write ∷ []))
@@ -79,12 +104,12 @@ no_numbers first history entries numbers empty u e found = absurd (never (ap (λ
 pub kept_none : (suffix : List (List TypeAndValue)) (sid history : ℕ) (writes : List Write) (s : StandingState) (log : Log) (limit : ℕ)
     → writes ≡ [] → s ≡ fresh_standing sid → sid < 4096 → log ≡ fresh limit
     → IsKeptBeside (record { suffix = suffix; sid = sid; history = history; writes = writes; log = log }) s
-unfolding state_from
+unfolding state_from numbers_from
 kept_none suffix sid history writes s log limit none first small new =
     subst (λ all. IsKeptBeside (record { suffix = suffix; sid = sid; history = history; writes = all; log = log }) s) (sym none)
     (subst (IsKeptBeside (record { suffix = suffix; sid = sid; history = history; writes = []; log = log })) (sym first)
     (record {
-      standing = record { counted = refl; weighed = refl; stamped = refl; made = refl; touched = no_numbers (start sid) history [] [] refl };
+      standing = record { counted = refl; weighed = refl; stamped = refl; made = refl; touched = no_numbers (start sid) history [] [] refl; numbers = refl };
       numbered = small;
       accepted = tt;
       rises = rises-none sid;
@@ -200,6 +225,9 @@ standing-push d s op preview was plan = record {
   made = leads;
   touched = numbered-push (start d.sid) d.history d.writes w s.entries (with_changes s.entries preview.touched) s.numbers (renewed (is_commit op) (s.count + 1) s.numbers preview.touched)
       was.made leads (λ i. renewed (is_commit op) (was.counted i + 1) s.numbers (touches i)) leaves was.touched;
+  numbers =
+      (λ i. renewed (is_commit op) (was.counted i + 1) (was.numbers i) (planned_touches d op preview plan i))
+      ∙ sym (numbers_after-push d.history d.writes w);
 }
   where
     w : Write
@@ -261,6 +289,16 @@ leads_ready d op ready s was is = record {
   leads = ap (λ es. with_changes es ready.preview.touched) was.standing.made ∙ is.plan.leads ∙ sym is.after.made;
 }
 
+-- and so do the numbers
+pub numbers_ready : (d : DirectoryState) (op : Op) (ready : Ready) (s : StandingState) → IsKeptBeside d s → IsReadyWrite d op ready
+    → renewed (is_commit op) ready.after.count s.numbers ready.preview.touched ≡ ready.after.numbers
+numbers_ready d op ready s was is =
+    let w : Write = record { csn = ready.preview.csn; op = op } in
+    let long : length (d.writes ++ w ∷ []) ≡ length d.writes + 1 = omega (arith, length_push d.writes w) in
+    let count : ready.after.count ≡ length d.writes + 1 = is.after.counted ∙ long in
+    (λ i. renewed (is_commit op) (count i) (was.standing.numbers i) (planned_touches d op ready.preview is.plan i))
+    ∙ sym (numbers_after-push d.history d.writes w) ∙ sym is.after.numbers
+
 -- a directory keeps its invariant after a write that is ready
 pub kept_ready : (d : DirectoryState) (op : Op) (ready : Ready) (s after : StandingState) (log : Log) (writes : List Write) → IsKeptBeside d s → IsReadyWrite d op ready
     → IsFormed (record { csn = ready.preview.csn; op = op }) → after ≡ ready.after
@@ -286,6 +324,7 @@ kept_trimmed d s log limit was left = record {
     stamped = was.standing.stamped;
     made = was.standing.made;
     touched = was.standing.touched;
+    numbers = was.standing.numbers;
   };
   numbered = was.numbered;
   accepted = was.accepted;

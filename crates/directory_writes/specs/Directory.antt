@@ -23,7 +23,7 @@ use Rattle.session_log.specs.Log.{Log, fresh, trimmed}
 use Rattle.directory_writes.specs.declared.preview.Preview.{Preview}
 use Rattle.directory_writes.specs.Formed.{AreFormed}
 use Rattle.directory_writes.specs.Standing.{StandingState}
-use Rattle.directory_writes.specs.Touches.{Numbers, last_touch, logged, number_at, IsLogged}
+use Rattle.directory_writes.specs.Touches.{Numbers, last_touch, logged, number_at, numbers_after, IsLogged}
 use Rattle.directory_writes.specs.Weights.{op_weight, kept_weight}
 
 -- the suffix, the number that its CSNs carry, the number of its history, the accepted writes in
@@ -228,6 +228,7 @@ pub record IsStanding (d : DirectoryState) (s : StandingState) : Type 0 where
   pub stamped : s.last ≡ last_csn_of d
   pub made : s.entries ≡ entries_of d
   pub touched : AreNumbered (start d.sid) d.history d.writes s.entries s.numbers
+  pub numbers : s.numbers ≡ numbers_after d.history d.writes
 
 -- what holds of a directory's writes and its log, and of what is kept beside them
 pub record IsKeptBeside (d : DirectoryState) (s : StandingState) : Type 0 where

@@ -41,7 +41,10 @@ pub record LeadsTo
   pub fit : CanBeMade before changes
   pub leads : with_changes before changes ≡ after
 
--- what is left of the entries before the last write, if anything, leads to those after it
-abbrev pub IsPrevious : Option Previous → List Entry → Type 0
-IsPrevious None entries = Unit {0}
-IsPrevious (Some previous) entries = LeadsTo previous.tree previous.changes entries
+-- what is left of what was kept before the last write, if anything, leads to these entries and
+-- numbers after it
+abbrev pub IsPrevious : Option Previous → List Entry → Numbers → Type 0
+IsPrevious None entries numbers = Unit {0}
+IsPrevious (Some previous) entries numbers =
+    LeadsTo previous.tree previous.changes entries
+    × (renewed previous.commits previous.number previous.numbers previous.changes ≡ numbers)

@@ -1,6 +1,6 @@
 -- Which writes touch an entry: those after which what its identity has differs
 -- from what it had before.
-use Rattle.std.specs.Prelude.{ℕ, Bool, ◌&&◌, not, ◌==◌, if◌then◌else◌, zero, suc, ◌+◌, cond, List, [], ◌++◌, length, map, filter, Option, is_some}
+use Rattle.std.specs.Prelude.{ℕ, Bool, ◌&&◌, not, ◌==◌, if◌then◌else◌, zero, suc, ◌+◌, cond, List, [], ◌∷◌, ◌++◌, length, map, filter, Option, is_some}
 use Rattle.std.specs.List.{fold}
 use Rattle.std.specs.Ordering.{nat_cmp}
 use Rattle.std.specs.Map.{lookup}
@@ -9,7 +9,9 @@ use Rattle.entry_tree.specs.declared.entry.Entry.{Entry}
 use Rattle.entry_tree.specs.declared.op.Write.{Write}
 use Rattle.entry_tree.specs.declared.touched.EntryChange.{EntryChange}
 use Rattle.entry_tree.specs.Bytes.{is_one_found}
-use Rattle.entry_tree.specs.History.{state_of}
+use Rattle.entry_tree.specs.Effects.{effect}
+use Rattle.entry_tree.specs.History.{identity, state_of}
+use Rattle.entry_tree.specs.Sound.{is_commit}
 use Rattle.entry_tree.specs.State.{entry_at}
 use Rattle.entry_tree.specs.Touched.{touched}
 use Rattle.session_log.specs.declared.note.Note.{Note}
@@ -75,3 +77,17 @@ renewed_by commits number numbers entry_change =
 -- the numbers after a write of this number, which is a commit or not
 abbrev pub renewed : Bool → ℕ → Numbers → List EntryChange → Numbers
 renewed commits number numbers touches = fold (renewed_by commits number) numbers touches
+
+-- the numbers after these writes, which come after `before` others, given the entries and numbers then
+unfoldable pub numbers_from : ℕ → List Entry → ℕ → Numbers → List Write → Numbers
+numbers_from history entries before numbers [] = numbers
+numbers_from history entries before numbers (write ∷ writes) =
+    numbers_from history (effect entries write.op (identity history (before + 1)) write.csn)
+    (before + 1)
+    (renewed (is_commit write.op) (before + 1) numbers
+    (touched entries (effect entries write.op (identity history (before + 1)) write.csn)))
+    writes
+
+-- the numbers after the writes of a list
+abbrev pub numbers_after : ℕ → List Write → Numbers
+numbers_after history writes = numbers_from history [] 0 [] writes

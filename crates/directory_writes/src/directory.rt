@@ -27,7 +27,7 @@ use crate::formed::{is_in_range, is_well_formed};
 use crate::judging::Drawn;
 use crate::preview::Preview;
 use crate::ready::Ready;
-use crate::standing::Standing;
+use crate::standing::{Standing, is_commit};
 use crate::start::Start;
 use crate::touches::note_each;
 use crate::weights::op_weight;
@@ -45,7 +45,6 @@ use std::mem;
 const FIRST_LOG_LIMIT: u64 = 1_000;
 
 /// The entries of a directory, with the writes that led to them and what these touched.
-#[derive(Drop)]
 pub struct Directory {
     suffix: Dn,
     sid: u16,
@@ -55,6 +54,20 @@ pub struct Directory {
     log: SessionLog,
     /// What is kept beside the writes.
     standing: Standing,
+}
+
+/// A call of its own, so that what drops a directory is one step.
+impl Drop for Directory {
+    fn drop(self) {
+        let Directory {
+            suffix: _suffix,
+            sid: _,
+            history: _,
+            accepted: _accepted,
+            log: _log,
+            standing: _standing,
+        } = self;
+    }
 }
 
 /// Contracts see its state, and for how many more writes and notes it has room.
@@ -360,6 +373,7 @@ impl Directory {
         let Ready { preview, after } = ready;
         is_in_range(preview.csn);
         is_well_formed(&op);
+        let commits = is_commit(&op);
         let number = self.accepted.len() as u64 + 1;
         note_each(&mut self.log, number, preview.touched.list());
         self.accepted.push_reserved(Write {
@@ -367,7 +381,8 @@ impl Directory {
             op,
         });
         let before = mem::replace(&mut self.standing, after);
-        self.standing.keep_previous(before, preview.touched);
+        self.standing
+            .keep_previous(before, preview.touched, commits);
     }
 
     /// Whether a commit that puts these entries and drops these identities may be kept where the

@@ -5,11 +5,12 @@ ghost use Rattle.entry_tree.specs.Sound.{is_commit};
 ghost use Rattle.entry_tree.specs.Touched.{with_changes};
 ghost use Rattle.directory_writes.specs.Directory.{IsNext};
 ghost use Rattle.directory_writes.specs.Standing.{fresh_standing, standing_after, LeadsTo};
+ghost use Rattle.directory_writes.specs.Touches as spec;
 ghost use Rattle.directory_writes.specs.Touches.{number_at};
 
 use crate::NoMemory;
 use crate::preview::Preview;
-use crate::previous::{Previous, previous_of};
+use crate::previous::Previous;
 use crate::ready::Ready;
 use crate::touches::{Numbers, renewed};
 use csn_cookie::{Csn, CsnMaker};
@@ -22,7 +23,6 @@ use std::mem;
 /// What a directory keeps beside its writes, and by which the next one is judged: how many there
 /// are and what they weigh, the last CSN, the entries, and for each entry that a commit touched
 /// last the number of that commit.
-#[derive(Drop)]
 pub struct Standing {
     pub(crate) count: u64,
     pub(crate) weight: u64,
@@ -32,8 +32,23 @@ pub struct Standing {
     /// are no entries.
     pub(crate) has_unique_names: bool,
     numbers: Numbers,
-    /// What is left of the entries before the last write, by which the next one is made.
+    /// What is left of what was kept before the last write, by which the next one is made.
     previous: Option<Previous>,
+}
+
+/// A call of its own, so that what drops it is one step.
+impl Drop for Standing {
+    fn drop(self) {
+        let Standing {
+            count: _,
+            weight: _,
+            csn_maker: _csn_maker,
+            tree: _tree,
+            has_unique_names: _,
+            numbers: _numbers,
+            previous: _previous,
+        } = self;
+    }
 }
 
 impl Model for Standing {
@@ -51,7 +66,7 @@ impl Model for Standing {
     } };
 
     ghost invariant = { λ s. StandsWithinLimits s.count s.weight s.tree s.has_unique_names
-        × IsPrevious s.previous s.tree };
+        × IsPrevious s.previous s.tree s.numbers };
 }
 
 impl Standing {
@@ -105,7 +120,8 @@ impl Standing {
             ready.after ≡ standing_after self.now op.now preview) }
     {
         let tree = self.tree.with_changes(&preview.touched)?;
-        let after = self.after(op, &preview, tree)?;
+        let numbers = self.numbers.copy()?;
+        let after = self.after(op, &preview, tree, numbers)?;
         Ok(Ready { preview, after })
     }
 
@@ -118,34 +134,44 @@ impl Standing {
         ensures after { IfOk result (λ ready.
             ready.after ≡ standing_after self.old op.now preview) }
     {
-        let spare = self.spare()?;
+        let (spare, numbers) = self.spare()?;
         let tree = spare.changed_by(&preview.touched)?;
-        let after = self.after(op, &preview, tree)?;
+        let after = self.after(op, &preview, tree, numbers)?;
         Ok(Ready { preview, after })
     }
 
-    /// The entries once more: those before the last write, which are brought up to date, or a copy.
-    fn spare(&mut self) -> Result<Tree, NoMemory>
+    /// The entries and their numbers once more: those before the last write, which are brought up to
+    /// date, or copies.
+    fn spare(&mut self) -> Result<(Tree, Numbers), NoMemory>
         ensures same { self.new ≡ self.old }
-        ensures entries { IfOk result (λ tree. tree ≡ self.old.entries) }
+        ensures entries { IfOk result (λ spare. spare.0 ≡ self.old.entries) }
+        ensures numbers { IfOk result (λ spare. spare.1 ≡ self.old.numbers) }
     {
         let previous = mem::replace(&mut self.previous, None);
         match previous {
             Some(previous) => previous.caught_up(&self.tree),
-            None => self.tree.copy(),
+            None => copies_of(&self.tree, &self.numbers),
         }
     }
 
-    /// What is kept after one more write, which was previewed so and leaves these entries.
-    fn after(&self, op: &Op, preview: &Preview, tree: Tree) -> Result<Standing, NoMemory>
+    /// What is kept after one more write, which was previewed so and leaves these entries, where
+    /// these are the numbers before it.
+    fn after(
+        &self,
+        op: &Op,
+        preview: &Preview,
+        tree: Tree,
+        before: Numbers,
+    ) -> Result<Standing, NoMemory>
         requires next { IsNext self.now op.now preview.now }
         requires entries { tree ≡ with_changes self.now.entries preview.now.touched }
+        requires before { before ≡ self.now.numbers }
         ensures { IfOk result (λ after. after ≡ standing_after self.now op.now preview.now) }
     {
         let number = self.count + 1;
         let commits = is_commit(op);
         let csn_maker = preview.csn_maker.copy();
-        let numbers = renewed(&self.numbers, commits, number, preview.touched.list())?;
+        let numbers = renewed(before, commits, number, preview.touched.list())?;
         Ok(Standing {
             count: number,
             weight: preview.weight,
@@ -157,17 +183,45 @@ impl Standing {
         })
     }
 
-    /// Keeps the entries before the last write, which made these changes, unless they are many.
-    pub(crate) fn keep_previous(&mut self, was: Standing, changes: Touched)
-        requires { LeadsTo was.entries changes self.old.entries }
+    /// Keeps the entries before the last write with their numbers, unless its changes are many. It
+    /// is a commit or not, and made these changes.
+    pub(crate) fn keep_previous(&mut self, was: Standing, changes: Touched, commits: bool)
+        requires leads { LeadsTo was.entries changes self.old.entries }
+        requires numbers { spec.renewed commits self.old.count was.numbers changes
+            ≡ self.old.numbers }
         ensures { self.new ≡ self.old }
     {
-        self.previous = previous_of(was.tree, changes);
+        let Standing {
+            count: _,
+            weight: _,
+            csn_maker: _csn_maker,
+            tree,
+            has_unique_names: _,
+            numbers,
+            previous: _previous,
+        } = was;
+        let previous = Previous {
+            tree,
+            numbers,
+            changes,
+            commits,
+            number: self.count,
+        };
+        self.previous = previous.if_few();
     }
 }
 
+/// Copies of both, which share all nodes with them.
+fn copies_of(tree: &Tree, numbers: &Numbers) -> Result<(Tree, Numbers), NoMemory>
+    ensures tree { IfOk result (λ copies. copies.0 ≡ tree.now) }
+    ensures numbers { IfOk result (λ copies. copies.1 ≡ numbers.now) }
+{
+    let copy = tree.copy()?;
+    Ok((copy, numbers.copy()?))
+}
+
 /// Whether it is a commit.
-fn is_commit(op: &Op) -> bool
+pub(crate) fn is_commit(op: &Op) -> bool
     ensures { result ≡ is_commit op.now }
 {
     match op {

@@ -14,15 +14,15 @@ pub(crate) type Numbers = SharedMap<u128, u64>;
 
 /// The numbers after a write with this number, which is a commit or not, made these changes.
 pub(crate) fn renewed(
-    before: &Numbers,
+    before: Numbers,
     commits: bool,
     number: u64,
     touched: &[EntryChange],
 ) -> Result<Numbers, NoMemory>
     ensures { IfOk result (λ numbers.
-        numbers ≡ spec.renewed commits number before.now touched.now) }
+        numbers ≡ spec.renewed commits number before touched.now) }
 {
-    let mut numbers = before.copy()?;
+    let mut numbers = before;
     for entry_change in touched {
         renew(&mut numbers, commits, number, entry_change)?;
     }

@@ -4,6 +4,7 @@ pub mod EqualNames
 pub mod Equality
 pub mod KeyTexts
 pub mod Marks
+pub mod Moved
 pub mod OnePair
 pub mod PairSets
 pub mod PathKeys

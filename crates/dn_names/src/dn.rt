@@ -1,8 +1,8 @@
 //! Distinguished names (RFC 4514, section 2.1).
-ghost use Rattle.std.specs.Prelude.{◌≡◌, ◌<◌, ◌↔◌, true, List, [], ◌∷◌, ◌++◌, length, Ok, IfOk, IfErr, OnOk};
+ghost use Rattle.std.specs.Prelude.{◌≡◌, ◌<◌, ◌↔◌, true, List, [], ◌∷◌, ◌++◌, length, Ok, IfOk, IfErr, IsTrue, OnOk};
 ghost use Rattle.dn_names.specs.Keys.{name_key};
 ghost use Rattle.dn_names.specs.Names.{TypeAndValue, same_name, is_at_or_below, is_child_of, parent_of, moved_name};
-ghost use Rattle.dn_names.specs.Paths.{path_key, HasPath, ShowsNames};
+ghost use Rattle.dn_names.specs.Paths.{path_key, HasPath, IsPathInParts, ShowsNames};
 ghost use Rattle.dn_names.specs.Reading.{name_of_text, rdns_of, chars_width, limited, IsNameFault};
 ghost use Rattle.dn_names.specs.Sound.{IsName, most_rdns};
 ghost use Rattle.dn_names.specs.Writing.{name_text};
@@ -74,6 +74,20 @@ impl Dn {
         })
     }
 
+    /// The same where the path key is made already, with how many octets of it are that of the
+    /// parent.
+    fn with_path(alloc: Global, rdns: Vec<Rdn>, path: Vec<u8>, above: usize) -> Result<Dn, NoMemory>
+        requires sound { IsName rdns.items }
+        requires path { IsPathInParts rdns.items path.items above }
+        ensures { IfOk result (λ dn. dn ≡ rdns.items) }
+    {
+        let name = Name::with_path(alloc, rdns, path, above)?;
+        Ok(Dn {
+            alloc,
+            name: Some(name),
+        })
+    }
+
     /// Reads a name (RFC 4514, section 3). The first refused RDN is reported. It is `BadName`,
     /// `UnknownType` or `TooLong` with its place, or `NoMemory`.
     pub fn parse(alloc: Global, text: &[u8]) -> Result<Dn, NameFault>
@@ -86,6 +100,30 @@ impl Dn {
         let chars = chars_of(alloc, text)?;
         let rdns = read_rdns(alloc, text.len(), chars.as_slice())?;
         Ok(Dn::of(alloc, rdns)?)
+    }
+
+    /// Reads a name as `parse` does. Where the text is the one in which the known name is written,
+    /// the RDNs are shared with that name.
+    pub fn parse_beside(alloc: Global, text: &[u8], known: &Dn) -> Result<Dn, NameFault>
+        ensures ok { IfOk result (λ dn. name_of_text text.now ≡ Ok dn) }
+        ensures fault { IfErr result (IsNameFault (name_of_text text.now)) }
+    {
+        if known.is_written(text)? {
+            return Ok(known.copy()?);
+        }
+        Dn::parse(alloc, text)
+    }
+
+    /// Whether this is the text in which the name is written.
+    fn is_written(&self, text: &[u8]) -> Result<bool, NoMemory>
+        ensures { IfOk result (λ is_written.
+            IsTrue is_written → name_of_text text.now ≡ Ok self.now) }
+    {
+        if self.written_len() != text.len() {
+            return Ok(false);
+        }
+        let written = self.write()?;
+        Ok(written.as_slice() == text)
     }
 
     /// Lends the RDNs of the name (RFC 4514, section 2.1): the entry's own first, that at the root
@@ -242,11 +280,43 @@ impl Dn {
         if kept.len() + to.rdns().len() > MOST_RDNS {
             return Err(NameFault::TooLong(0));
         }
+        if kept.is_empty() {
+            return Ok(to.copy()?);
+        }
+        let (path, above) = self.moved_path(from, to)?;
         let mut rdns = Vec::with_capacity(self.alloc, kept.len() + to.rdns().len())?;
         append_copies(&mut rdns, kept)?;
         append_copies(&mut rdns, to.rdns())?;
-        Ok(Dn::of(self.alloc, rdns)?)
+        Ok(Dn::with_path(self.alloc, rdns, path, above)?)
     }
+
+    /// The path key of the name with `to` in place of its suffix that equals `from`, where that is
+    /// not the whole name, and how many octets of it are that of the parent.
+    fn moved_path(&self, from: &Dn, to: &Dn) -> Result<(Vec<u8>, usize), NoMemory>
+        requires below { is_at_or_below self.now from.now ≡ true }
+        requires longer { length from.now < length self.now }
+        ensures { IfOk result (λ found.
+            IsPathInParts (moved_name self.now from.now to.now) found.0.items found.1) }
+    {
+        let whole = self.path();
+        let parent = self.parent_path();
+        let own = whole.len() - parent.len();
+        let suffix = from.path();
+        let (_, kept) = whole.split_at(suffix.len());
+        let path = joined(self.alloc, to.path(), kept)?;
+        let above = path.len() - own;
+        Ok((path, above))
+    }
+}
+
+/// Both texts, one after the other.
+fn joined(alloc: Global, front: &[u8], back: &[u8]) -> Result<Vec<u8>, NoMemory>
+    ensures { IfOk result (λ text. text.items ≡ front.now ++ back.now) }
+{
+    let mut text = Vec::with_capacity(alloc, front.len().saturating_add(back.len()))?;
+    text.extend_from_slice(front)?;
+    text.extend_from_slice(back)?;
+    Ok(text)
 }
 
 /// Reads the RDNs of a text of n bytes.

@@ -41,6 +41,20 @@ impl Name {
         ensures numbers { IfOk result (λ name. AllPass has_small_numbers rdns.items) }
     {
         let (path, above) = path_of(alloc, rdns.as_slice())?;
+        Name::with_path(alloc, rdns, path, above)
+    }
+
+    /// The same where the path key is made already.
+    pub(crate) fn with_path(
+        alloc: Global,
+        rdns: Vec<Rdn>,
+        path: Vec<u8>,
+        above: usize,
+    ) -> Result<Arc<Name>, NoMemory>
+        requires { IsPathInParts rdns.items path.items above }
+        ensures value { IfOk result (λ name. name.value ≡ rdns.items) }
+        ensures numbers { IfOk result (λ name. AllPass has_small_numbers rdns.items) }
+    {
         match Arc::new(alloc, Name { rdns, path, above }) {
             Ok(name) => Ok(name),
             Err(_) => Err(AllocError),

@@ -29,9 +29,10 @@ pub fn followed_spec(alloc: Global, consumer: u32) -> Result<Spec, NoMemory>
     Ok(Spec {
         base: suffix_name(alloc)?,
         scope: Scope::Sub,
-        filter: Filter::Equal(
+        filter: Filter::equality(
+            alloc,
             Octets::from_slice(alloc, b"departmentNumber")?,
             Octets::from_slice(alloc, department.as_bytes())?,
-        ),
+        )?,
     })
 }

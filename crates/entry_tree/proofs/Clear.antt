@@ -13,7 +13,7 @@ use Rattle.entry_writes.specs.declared.touched.EntryChange.{EntryChange}
 use Rattle.entry_writes.specs.State.{ascends, entry_at, is_named, entry_named, most_entries, most_weight, same_named, total_weight}
 use Rattle.entry_writes.specs.Touched.{change_at, touched, puts_of}
 use Rattle.entry_tree.specs.Fitting.{is_directory_content}
-use Rattle.entry_tree.specs.Judging.{AreClear, has_free_name, is_changed, is_free, takes_of}
+use Rattle.entry_tree.specs.Judging.{AreClear, has_free_name, is_changed, is_free, keeps_name, takes_of}
 use Rattle.entry_tree.proofs.Changing.{both, differs, none_outside, own_uuid, same_where, touched_at}
 use Rattle.entry_tree.proofs.DistinctNames.{distinct_where_none, none_where_distinct, fails_where_none, passes_where_all}
 use Rattle.entry_tree.proofs.Finding.{found_passes}
@@ -171,3 +171,22 @@ all_more test of xs i x low at passes all =
 pub none_by : (found : Option (ℕ × ℕ)) (none : Bool) → is_some found ≡ not none → none ≡ true → found ≡ None
 none_by None none is holds = refl
 none_by (Some pair) none is holds = absurd (false≢true (sym (is ∙ ap not holds)))
+
+-- the name of an entry is free where its identity has it, which changes, and no two entries have one name
+pub kept_free : (es : List Entry) (changes : List EntryChange) (e : Entry) → ascends es ≡ true → same_named es ≡ None → keeps_name (entry_at es e.uuid) e ≡ true → is_changed changes e.uuid ≡ true
+    → has_free_name es changes e ≡ true
+kept_free es changes e asc apart keeps hit = from (entry_at es e.uuid) refl keeps
+  where
+    by : (was : Entry) → entry_at es was.uuid ≡ Some was → was.uuid ≡ e.uuid → same_name was.dn e.dn ≡ true → (found : Option Entry) → entry_named es e.dn ≡ found → is_free changes found ≡ true
+    by was at own same None none = absurd (false≢true (sym (fails_where_none (is_named e.dn) es was.uuid was at none) ∙ same))
+    by was at own same (Some holder) found =
+        let there : entry_at es holder.uuid ≡ Some holder = held_where_found (is_named e.dn) es holder asc found in
+        let named : same_name holder.dn e.dn ≡ true = found_passes (is_named e.dn) es holder found in
+        let alike : same_name was.dn holder.dn ≡ true = name_trans was.dn e.dn holder.dn same (name_sym holder.dn e.dn named) in
+        ap (is_changed changes) (distinct_where_none es apart holder was there at alike ∙ own) ∙ hit
+
+    from : (was : Option Entry) → entry_at es e.uuid ≡ was → keeps_name was e ≡ true → has_free_name es changes e ≡ true
+    from None none same = absurd (false≢true same)
+    from (Some was) found same =
+        let own : was.uuid ≡ e.uuid = own_uuid es e.uuid was found in
+        by was (ap (entry_at es) own ∙ found) own same (entry_named es e.dn) refl

@@ -1,8 +1,8 @@
 -- How many entries have a type otherwise than as their whole RDN, counted attribute by attribute, entry by entry and change by change.
 use Rattle.std.proofs.Common.{◌≡◌, ◌≢◌, ◌<◌, ◌≤◌, ◌+◌, ℕ, zero, suc, Bool, true, false, not, ◌&&◌, ◌||◌, cond, nat_eq, List, [], ◌∷◌, length, take, take_all, get_or, refl, sym, ap, ◌∙◌, subst, arith, inl, inr}
-use Rattle.std.specs.Prelude.{AllPairs, replicate, slice_index}
-use Rattle.std.specs.List.{list_any, sum_by}
-use Rattle.std.proofs.lemmas.Bool.{and_parts, cases_eq, eq-eqb, eqb-true, ne_eqb}
+use Rattle.std.specs.Prelude.{AllPairs, Option, Some, None, replicate, slice_index}
+use Rattle.std.specs.List.{list_all, list_any, sum_by, zip}
+use Rattle.std.proofs.lemmas.Bool.{and_parts, cases_eq, eq-eqb, eqb-true, false≢true, ne_eqb}
 use Rattle.std.proofs.lemmas.List.Sums.{count_by-le-length, sum_by-cons, sum_by-take-le, sum_by_more}
 use Rattle.schema_rules.specs.declared.attributes.Attribute.{Attribute}
 use Rattle.schema_rules.specs.Attributes.{IsAttributeList}
@@ -11,7 +11,7 @@ use Rattle.entry_writes.specs.declared.entry.Entry.{Entry}
 use Rattle.entry_writes.specs.declared.touched.EntryChange.{EntryChange}
 use Rattle.entry_writes.specs.State.{ascends, most_entries, own_pairs}
 use Rattle.entry_writes.specs.Touched.{touched, with_changes, CanBeMade}
-use Rattle.entry_tree.specs.Pinned.{CountsStrays, is_astray, is_stray, is_whole_rdn, stray, strays_after, strays_before, strays_in, type_count}
+use Rattle.entry_tree.specs.Pinned.{CountsStrays, found_stray, is_astray, is_counterpart, is_replaced, is_stray, is_whole_rdn, keeps_types, stray, strays_after, strays_before, strays_in, type_count}
 use Rattle.entry_tree.proofs.Totals.{adds_touched}
 
 -- numbers that are all 0
@@ -165,3 +165,45 @@ pub counted_made : (es : List Entry) (changes : List EntryChange) (was now : Lis
 counted_made es changes was now counts asc can moved = λ kind low.
     let s = strays_made kind es changes asc can in
     omega (arith, s.both, counts kind low, moved kind low)
+
+-- ---- changes that leave the numbers as they are
+
+-- both are so or none is
+both_or_none : (x y : Bool) → cond x y (not y) ≡ true → x ≡ y
+both_or_none true true h = refl
+both_or_none true false h = absurd (false≢true h)
+both_or_none false true h = absurd (false≢true h)
+both_or_none false false h = refl
+
+astray_same : (kind : ℕ) (own other : List TypeAndValue) (a b : Attribute) → is_counterpart own other a b ≡ true → is_astray kind own a ≡ is_astray kind other b
+astray_same kind own other a b same =
+    let p = and_parts (nat_eq a.kind b.kind) (cond (is_whole_rdn own a) (is_whole_rdn other b) (not (is_whole_rdn other b))) same in
+    let kinds : a.kind ≡ b.kind = eqb-true a.kind b.kind p.0 in
+    let whole : is_whole_rdn own a ≡ is_whole_rdn other b = both_or_none (is_whole_rdn own a) (is_whole_rdn other b) p.1 in
+    λ i. nat_eq (kinds i) kind && not (whole i)
+
+any_same : (kind : ℕ) (own other : List TypeAndValue) (xs ys : List Attribute) → length xs ≡ length ys
+    → list_all (λ (items : Attribute × Attribute). is_counterpart own other items.0 items.1) (zip xs ys) ≡ true → list_any (is_astray kind own) xs ≡ list_any (is_astray kind other) ys
+any_same kind own other [] [] long all = refl
+any_same kind own other [] (y ∷ ys) long all = absurd (omega (arith, long))
+any_same kind own other (x ∷ xs) [] long all = absurd (omega (arith, long))
+any_same kind own other (x ∷ xs) (y ∷ ys) long all =
+    let p = and_parts (is_counterpart own other x y) (list_all (λ (items : Attribute × Attribute). is_counterpart own other items.0 items.1) (zip xs ys)) all in
+    λ i. astray_same kind own other x y p.0 i || any_same kind own other xs ys (omega (arith, long)) p.1 i
+
+found_same : (kind : ℕ) (before after : Option Entry) → is_replaced before after ≡ true → found_stray kind before ≡ found_stray kind after
+found_same kind None after same = absurd (false≢true same)
+found_same kind (Some e) None same = absurd (false≢true same)
+found_same kind (Some e) (Some d) same =
+    let p = and_parts (nat_eq (length e.attrs) (length d.attrs))
+    (list_all (λ (items : Attribute × Attribute). is_counterpart (own_pairs e.dn) (own_pairs d.dn) items.0 items.1) (zip e.attrs d.attrs)) same in
+    ap (λ b. cond b 1 0) (any_same kind (own_pairs e.dn) (own_pairs d.dn) e.attrs d.attrs (eqb-true (length e.attrs) (length d.attrs) p.0) p.1)
+
+-- where each change keeps the types, as many have them so before as after
+pub same_strays : (kind : ℕ) (changes : List EntryChange) → list_all keeps_types changes ≡ true → strays_before kind changes ≡ strays_after kind changes
+same_strays kind [] all = refl
+same_strays kind (c ∷ changes) all =
+    let p = and_parts (keeps_types c) (list_all keeps_types changes) all in
+    sum_by-cons (λ (x : EntryChange). found_stray kind x.before) c changes
+    ∙ (λ i. found_same kind c.before c.after p.0 i + same_strays kind changes p.1 i)
+    ∙ sym (sum_by-cons (λ (x : EntryChange). found_stray kind x.after) c changes)

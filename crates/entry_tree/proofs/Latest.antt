@@ -1,5 +1,5 @@
 -- What a commit leaves at the identities that it puts or drops: the last entry of each that it puts, or none.
-use Rattle.std.proofs.Common.{◌≡◌, ◌<◌, ◌+◌, ℕ, Bool, true, false, cond, nat_eq, List, [], ◌∷◌, ◌++◌, length, take, get_or, map, reverse, Bor, Option, Some, None, refl, sym, ap, ◌∙◌}
+use Rattle.std.proofs.Common.{◌≡◌, ◌<◌, ◌+◌, ℕ, Bool, true, false, cond, nat_eq, List, [], ◌∷◌, ◌++◌, length, take, get_or, map, reverse, Bor, Option, Some, None, refl, sym, ap, ◌∙◌, arith}
 use Rattle.std.specs.Prelude.{◌||◌}
 use Rattle.std.specs.BTreeMap as btree
 use Rattle.std.specs.BTreeMap.{BTreeMap, is_at}
@@ -92,3 +92,30 @@ touched_latest es puts drops latest asc is =
   where
     one : (u : ℕ) → among u (ids puts drops) ≡ true → change_by es latest u ≡ change_at es (committed es puts drops) u
     one u there = ap (λ found. let t : EntryChange = record { uuid = u; before = entry_at es u; after = found } in t) (is u ∙ latest_is es puts drops u asc there)
+
+-- what a commit changes that puts an entry and does nothing else
+pub touched_alone : (es : List Entry) (e : Entry) (old new : List EntryChange) (was : Option Entry) → ascends es ≡ true → old ≡ [] → was ≡ entry_at es e.uuid
+    → new ≡ old ++ filter is_change ((record { uuid = e.uuid; before = was; after = Some e }) ∷ []) → new ≡ touched es (committed es (e ∷ []) [])
+touched_alone es e old new was asc none held is =
+    is
+    ∙ ap (λ (changes : List EntryChange). changes ++ filter is_change (change was (Some e) ∷ [])) none
+    ∙ ap (λ (o : Option Entry). filter is_change (change o (Some e) ∷ [])) held
+    ∙ ap (λ (o : Option Entry). filter is_change (change (entry_at es e.uuid) o ∷ [])) (sym own)
+    ∙ touched_latest es (e ∷ []) [] latest asc (λ u. refl)
+  where
+    change : Option Entry → Option Entry → EntryChange
+    change before after = record { uuid = e.uuid; before = before; after = after }
+
+    latest : ℕ → Option Entry
+    latest u = entry_at (reverse (e ∷ [])) u
+
+    own : latest e.uuid ≡ Some e
+    own = ap (λ b. cond b (Some e) None) (eq-eqb e.uuid e.uuid refl)
+
+-- a commit of one entry and nothing else is that of the first one
+pub alone_only : (es puts : List Entry) (drops : List ℕ) (e : Entry) → length puts ≡ 1 → e ≡ get_or puts 0 e → length drops ≡ 0
+    → touched es (committed es (e ∷ []) []) ≡ touched es (committed es puts drops)
+alone_only es [] drops e one at none = absurd (omega (arith, one))
+alone_only es (x ∷ []) [] e one at none = ap (λ (y : Entry). touched es (committed es (y ∷ []) [])) at
+alone_only es (x ∷ []) (d ∷ drops) e one at none = absurd (omega (arith, none))
+alone_only es (x ∷ y ∷ puts) drops e one at none = absurd (omega (arith, one))

@@ -1,5 +1,5 @@
 -- The path keys of an index that begin with another.
-use Rattle.std.proofs.Common.{◌≡◌, ◌<◌, ℕ, Bool, true, false, not, ◌&&◌, ◌||◌, cond, nat_eq, List, [], ◌∷◌, ◌++◌, suc, length, get_or, drop, Option, Some, None, Vec, Global, sym, ap, refl, ◌∙◌, subst, arith, ◌⊎◌, inl, inr, append-nil}
+use Rattle.std.proofs.Common.{◌≡◌, ◌<◌, ℕ, Bool, true, false, not, ◌&&◌, ◌||◌, cond, nat_eq, List, [], ◌∷◌, ◌++◌, suc, length, get_or, drop, Option, Some, None, Vec, Global, sym, ap, refl, ◌∙◌, subst, arith, append-nil}
 use Rattle.std.specs.Prelude.{bytes_eq, All, IfSome}
 use Rattle.std.specs.Cmp.{nat_cmp_total, tied_itself}
 use Rattle.std.specs.Cmp.Lexicographic.{slice_cmp, bytes_decides, nat_list_cmp_total}
@@ -7,12 +7,13 @@ use Rattle.std.specs.List.{AllByRecursion, list_any, starts_with}
 use Rattle.std.specs.List.Sorted.{IsStrictlySortedBy}
 use Rattle.std.specs.Map.{keys_of, lookup_entry}
 use Rattle.std.specs.Ordering.{nat_cmp, is_eq, is_gt, is_lt, ordering_then}
-use Rattle.std.specs.declared.cmp.Ordering.TheVariants.{Less, Equal, Greater}
-use Rattle.std.proofs.lemmas.Bool.{and_parts, and_from, cases_order, false≢true, eq-eqb}
-use Rattle.std.proofs.lemmas.Bool.Decides.{Decides-eqb, nat_tests}
+use Rattle.std.specs.declared.cmp.Ordering.TheVariants.{Less}
+use Rattle.std.proofs.lemmas.Bool.{and_parts, and_from, false≢true, eq-eqb}
+use Rattle.std.proofs.lemmas.Bool.Decides.{Decides-eqb}
 use Rattle.std.proofs.lemmas.Map.Keys.{sorted_head, sorted_tail}
 use Rattle.std.proofs.lemmas.Map.Text.{is_eq-slice_cmp}
 use Rattle.std.proofs.lemmas.Slice.Eq.{starts_is}
+use Rattle.shared_map.proofs.Beginnings.{begun_by, between}
 use Rattle.dn_names.specs.Names.{TypeAndValue, is_at_or_below}
 use Rattle.csn_cookie.proofs.OrderLemmas.{less_from}
 use Rattle.dn_names.specs.Paths.{path_key, HasPath}
@@ -34,28 +35,6 @@ below_longer [] (y ∷ rest) some = refl
 below_longer (x ∷ path) rest some =
     ap (λ o. ordering_then o (slice_cmp nat_cmp path (path ++ rest))) (tied_itself nat_cmp_total x) ∙ below_longer path rest some
 
--- a text between one and a longer one that begins with it begins with it too
-pub between : (path next rest : List ℕ) → is_gt (slice_cmp nat_cmp path next) ≡ false → is_gt (slice_cmp nat_cmp next (path ++ rest)) ≡ false
-    → (tail : List ℕ) × (next ≡ path ++ tail)
-between [] next rest low high = (next, refl)
-between (x ∷ path) [] rest low high = absurd (false≢true (sym low))
-between (x ∷ path) (y ∷ next) rest low high = by (between path next rest) (cases_order x y)
-  where
-    less_above : (a b : ℕ) → a < b → nat_cmp b a ≡ Greater
-    less_above a b less = grind (arith, nat_tests)
-
-    by : (is_gt (slice_cmp nat_cmp path next) ≡ false → is_gt (slice_cmp nat_cmp next (path ++ rest)) ≡ false → (tail : List ℕ) × (next ≡ path ++ tail))
-        → (x ≡ y) ⊎ ((x < y) ⊎ (y < x)) → (tail : List ℕ) × (y ∷ next ≡ x ∷ (path ++ tail))
-    by later (inl same) =
-        let tied : nat_cmp x y ≡ Equal = ap (nat_cmp x) (sym same) ∙ tied_itself nat_cmp_total x in
-        let back : nat_cmp y x ≡ Equal = ap (λ n. nat_cmp n x) (sym same) ∙ tied_itself nat_cmp_total x in
-        let others = later
-        (sym (ap (λ o. is_gt (ordering_then o (slice_cmp nat_cmp path next))) tied) ∙ low)
-        (sym (ap (λ o. is_gt (ordering_then o (slice_cmp nat_cmp next (path ++ rest)))) back) ∙ high) in
-        (others.0, λ i. sym same i ∷ others.1 i)
-    by later (inr (inl less)) = absurd (false≢true (sym high ∙ ap (λ o. is_gt (ordering_then o (slice_cmp nat_cmp next (path ++ rest)))) (less_above x y less)))
-    by later (inr (inr more)) = absurd (false≢true (sym low ∙ ap (λ o. is_gt (ordering_then o (slice_cmp nat_cmp path next))) (less_above y x more)))
-
 -- a longer text, in its parts
 parts_of : (longer path : List ℕ) → is_longer longer path ≡ true → (rest : List ℕ) × (0 < length rest) × (longer ≡ path ++ rest)
 parts_of longer path is =
@@ -67,10 +46,6 @@ parts_of longer path is =
     some [] same true equal never = absurd (false≢true never)
     some [] same false differ is = absurd (false≢true (sym differ ∙ (bytes_decides longer path).1 (same ∙ append-nil path)))
     some (y ∷ rest) same b equal is = omega arith
-
--- a text that is another with more after it begins with it
-pub begins : (text path tail : List ℕ) → text ≡ path ++ tail → starts_with nat_eq text path ≡ true
-begins text path tail is = (starts_is Decides-eqb text path (starts_with nat_eq text path) refl).1 tail is
 
 -- what is above a text is not equal to it
 other_above : (path next : List ℕ) → slice_cmp nat_cmp path next ≡ Less → bytes_eq next path ≡ false
@@ -208,7 +183,7 @@ module _ (names : Names) (path : List ℕ) where
               let above : slice_cmp nat_cmp path longer ≡ Less = ap (slice_cmp nat_cmp path) parts.2 ∙ below_longer path parts.0 parts.1 in
               let high = next_first path names next ids ordered first longer held (ap is_lt above) found in
               let tail = between path next.items parts.0 (ap is_gt less) (ap (λ text. is_gt (slice_cmp nat_cmp next.items text)) (sym parts.2) ∙ high) in
-              absurd (false≢true (sym apart ∙ begins next.items path tail.0 tail.1))
+              absurd (false≢true (sym apart ∙ begun_by next.items path tail.0 tail.1))
 
 -- ---- entries below a name
 

@@ -8,18 +8,18 @@ use Rattle.std.proofs.lemmas.List.Sums.{get_or-le-sum_by}
 use Rattle.std.proofs.lemmas.Option.{same_Some}
 use Rattle.std.proofs.lemmas.Slice.Eq.{bytes_eq-Decides}
 use Rattle.schema_rules.specs.declared.attributes.Attribute.{Attribute}
-use Rattle.schema_rules.specs.Keys.{key_of}
+use Rattle.schema_rules.specs.Keys.{has_key, key_of}
 use Rattle.schema_rules.specs.Schema.{type_named}
 use Rattle.dn_names.specs.Names.{TypeAndValue, is_child_of, pair_key}
 use Rattle.dn_names.specs.Paths.{four_octets, path_key, rdn_path}
 use Rattle.dn_names.proofs.OnePair.{rdn_path-one}
 use Rattle.dn_names.proofs.PathKeys.{path_key-from_same}
 use Rattle.ldap_filter.specs.FilterTree.{FilterTree, all_of, equal, tree_of, trees}
-use Rattle.ldap_filter.specs.Truth.{conjunction, is_false, is_true, is_undefined, truth_on, truths_on}
+use Rattle.ldap_filter.specs.Truth.{conjunction, has_keyed, is_false, is_true, is_undefined, truth_on, truths_on}
 use Rattle.ldap_filter.specs.declared.filter.Filter.{Filter}
 use Rattle.ldap_filter.specs.declared.truth.Truth.{Truth}
 use Rattle.ldap_filter.specs.declared.truth.Truth.TheVariants.{True, False, Undefined}
-use Rattle.ldap_filter.proofs.Equalities.{equality_matched, has_key, has_keyed}
+use Rattle.ldap_filter.proofs.Equalities.{equality_matched}
 use Rattle.entry_writes.specs.declared.entry.Entry.{Entry}
 use Rattle.entry_writes.specs.State.{own_pairs}
 use Rattle.entry_tree.specs.NameIndex.{has_path_key}

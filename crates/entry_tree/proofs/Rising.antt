@@ -1,12 +1,13 @@
 -- Lists of identities in ascending order: two that have the same ones are one list.
-use Rattle.std.proofs.Common.{◌≡◌, ◌<◌, ◌+◌, ℕ, Bool, true, false, cond, nat_eq, nat_lt, List, [], ◌∷◌, length, take, get_or, refl, sym, ap, ◌∙◌, ◌⊎◌, inl, inr, arith}
+use Rattle.std.proofs.Common.{◌≡◌, ◌<◌, ◌+◌, ℕ, Bool, true, false, cond, nat_eq, nat_lt, List, [], ◌∷◌, ◌++◌, length, take, get_or, refl, sym, ap, ◌∙◌, ◌⊎◌, inl, inr, append-nil, arith}
 use Rattle.std.specs.Prelude.{◌&&◌, ◌||◌}
 use Rattle.std.specs.BTreeSet.{insert_key}
-use Rattle.std.specs.List.{filter, list_all, list_any}
+use Rattle.std.specs.List.{filter, flat_map, list_all, list_any}
 use Rattle.std.specs.Ordering.{nat_cmp}
 use Rattle.std.proofs.lemmas.Bool.{and_parts, and_from, eq-eqb, eqb-true, lt-ltb, cases_order, false≢true, cond_both}
 use Rattle.std.proofs.lemmas.Bool.Decides.{nat_tests}
 use Rattle.std.proofs.lemmas.List.{take_more}
+use Rattle.std.proofs.lemmas.List.Concat.{flat_map-append}
 use Rattle.std.proofs.lemmas.List.Sums.{fold-append}
 use Rattle.entry_writes.specs.Touched.{joined, rises}
 use Rattle.entry_writes.proofs.Passing.{list_all-filter}
@@ -143,3 +144,11 @@ same_passing p ns ms up rising one other =
 -- a union with one more number of the second part
 pub joined_more : (ns us : List ℕ) (i : ℕ) → i < length us → joined ns (take (i + 1) us) ≡ insert_key nat_cmp (joined ns (take i us)) (get_or us i 0)
 joined_more ns us i low = ap (joined ns) (take_more us i 0 low) ∙ fold-append (insert_key nat_cmp) ns (take i us) (get_or us i 0 ∷ [])
+
+-- the union of some lists with those of one more
+pub joined_each_more : {A : Type 0} (ids : A → List ℕ) (lists : List A) (i : ℕ) (list : A) → i < length lists → list ≡ get_or lists i list
+    → joined [] (flat_map ids (take (i + 1) lists)) ≡ joined (joined [] (flat_map ids (take i lists))) (ids list)
+joined_each_more ids lists i list low is =
+    ap (λ ls. joined [] (flat_map ids ls)) (take_more lists i list low ∙ ap (λ last. take i lists ++ last ∷ []) (sym is))
+    ∙ ap (joined []) (flat_map-append ids (take i lists) (list ∷ []) ∙ ap (λ more. flat_map ids (take i lists) ++ more) (append-nil (ids list)))
+    ∙ fold-append (insert_key nat_cmp) [] (flat_map ids (take i lists)) (ids list)

@@ -1,13 +1,14 @@
 -- The entries at or below a name, by the identities that stand at path keys which begin with its own.
-use Rattle.std.proofs.Common.{◌≡◌, ℕ, Bool, true, false, ◌||◌, cond, nat_eq, List, [], ◌∷◌, Option, Some, None, sym, ap, refl, ◌∙◌, subst}
+use Rattle.std.proofs.Common.{◌≡◌, ℕ, Bool, true, false, ◌||◌, cond, nat_eq, List, [], ◌∷◌, Option, Some, None, Vec, Global, sym, ap, refl, ◌∙◌, subst}
 use Rattle.std.specs.Cmp.Lexicographic.{bytes_decides}
-use Rattle.std.specs.List.{filter, filter_map, starts_with}
+use Rattle.std.specs.List.{filter, filter_map, flat_map, starts_with}
 use Rattle.std.specs.List.Sorted.{IsStrictlySortedBy}
 use Rattle.std.specs.Map.{keys_of}
 use Rattle.std.proofs.Math.Bool.{or-false}
 use Rattle.std.proofs.lemmas.Bool.{false≢true, or_left, or_right}
 use Rattle.std.proofs.lemmas.List.Folds.{list_any-append}
 use Rattle.std.proofs.lemmas.Map.Keys.{sorted_head, sorted_tail}
+use Rattle.shared_map.specs.Queries.{begins}
 use Rattle.dn_names.specs.Names.{TypeAndValue, is_at_or_below}
 use Rattle.dn_names.specs.Paths.{path_key, HasPath}
 use Rattle.dn_names.proofs.PathKeys.{starts_is_below}
@@ -19,14 +20,17 @@ use Rattle.entry_tree.proofs.Finding.{passes}
 use Rattle.entry_tree.proofs.NameKeys.{key_cmp, is_key, key_is, none_later, own_key}
 use Rattle.entry_tree.proofs.Rising.{among, among-joined, rises-joined}
 use Rattle.entry_tree.proofs.Taking.{taken_entries}
-use Rattle.entry_tree.proofs.Walking.{ids_of, starts}
+
+-- the identities that stand at the pairs
+abbrev ids_of : Names → List ℕ
+ids_of names = flat_map (λ (pair : Vec ℕ Global × Vec ℕ Global). pair.1.items) names
 
 -- ---- identities of an index
 
 -- an identity that stands at a path key which begins with the path is within it
 there_within : (names : Names) (path text : List ℕ) (u : ℕ) → starts_with nat_eq text path ≡ true → stands_at names text u ≡ true → among u (ids_within names path) ≡ true
 there_within [] path text u begun stands = absurd (false≢true stands)
-there_within (e ∷ names) path text u begun stands = by (there_within names path text u begun) (is_key text e.0) refl stands (starts path e.0) refl
+there_within (e ∷ names) path text u begun stands = by (there_within names path text u begun) (is_key text e.0) refl stands (begins path e.0) refl
   where
     later : among u (ids_within names path) ≡ true → (b : Bool) → among u (ids_of (cond b (e ∷ within names path) (within names path))) ≡ true
     later inside false = inside
@@ -34,7 +38,7 @@ there_within (e ∷ names) path text u begun stands = by (there_within names pat
         list_any-append (nat_eq u) e.1.items (ids_within names path)
         ∙ or_right (among u e.1.items) (among u (ids_within names path)) inside
 
-    by : (stands_at names text u ≡ true → among u (ids_within names path) ≡ true) → (s : Bool) → is_key text e.0 ≡ s → among u (listed (cond s (Some e.1) (found_at names text))) ≡ true → (b : Bool) → starts path e.0 ≡ b
+    by : (stands_at names text u ≡ true → among u (ids_within names path) ≡ true) → (s : Bool) → is_key text e.0 ≡ s → among u (listed (cond s (Some e.1) (found_at names text))) ≡ true → (b : Bool) → begins path e.0 ≡ b
         → among u (ids_of (cond b (e ∷ within names path) (within names path))) ≡ true
     by rest true same here true is = list_any-append (nat_eq u) e.1.items (ids_within names path) ∙ or_left (among u e.1.items) (among u (ids_within names path)) here
     by rest true same here false is = absurd (false≢true (sym is ∙ ap (λ t. starts_with nat_eq t path) (sym (key_is text e.0 same)) ∙ begun))
@@ -48,9 +52,9 @@ pub record Stands (names : Names) (path : List ℕ) (u : ℕ) : Type 0 where
 
 within_there : (names : Names) (path : List ℕ) (u : ℕ) → IsStrictlySortedBy key_cmp (keys_of names) → among u (ids_within names path) ≡ true → Stands names path u
 within_there [] path u ordered is = absurd (false≢true is)
-within_there (e ∷ names) path u ordered is = by (within_there names path u (sorted_tail key_cmp e.0 (keys_of names) ordered)) (starts path e.0) refl is
+within_there (e ∷ names) path u ordered is = by (within_there names path u (sorted_tail key_cmp e.0 (keys_of names) ordered)) (begins path e.0) refl is
   where
-    here : starts path e.0 ≡ true → among u e.1.items ≡ true → Stands (e ∷ names) path u
+    here : begins path e.0 ≡ true → among u e.1.items ≡ true → Stands (e ∷ names) path u
     here begun inside = record {
       text = e.0.items;
       begun = begun;
@@ -67,11 +71,11 @@ within_there (e ∷ names) path u ordered is = by (within_there names path u (so
     later s =
         record { text = s.text; begun = s.begun; there = apart s (is_key s.text e.0) refl }
 
-    either : (among u (ids_within names path) ≡ true → Stands names path u) → starts path e.0 ≡ true → (b : Bool) → among u e.1.items ≡ b → (b || among u (ids_within names path)) ≡ true → Stands (e ∷ names) path u
+    either : (among u (ids_within names path) ≡ true → Stands names path u) → begins path e.0 ≡ true → (b : Bool) → among u e.1.items ≡ b → (b || among u (ids_within names path)) ≡ true → Stands (e ∷ names) path u
     either rest begun true inside there = here begun inside
     either rest begun false off there = later (rest there)
 
-    by : (among u (ids_within names path) ≡ true → Stands names path u) → (b : Bool) → starts path e.0 ≡ b → among u (ids_of (cond b (e ∷ within names path) (within names path))) ≡ true → Stands (e ∷ names) path u
+    by : (among u (ids_within names path) ≡ true → Stands names path u) → (b : Bool) → begins path e.0 ≡ b → among u (ids_of (cond b (e ∷ within names path) (within names path))) ≡ true → Stands (e ∷ names) path u
     by rest true begun there = either rest begun (among u e.1.items) refl (sym (list_any-append (nat_eq u) e.1.items (ids_within names path)) ∙ there)
     by rest false off there = later (rest there)
 

@@ -1,7 +1,8 @@
 -- What a commit is judged by where no two entries before it have one name: the changes that it
 -- makes.
-use Rattle.std.specs.Prelude.{◌≡◌, ℕ, ◌+◌, ◌≤◌, Bool, true, ◌==◌, length, List, Option, Some, None}
+use Rattle.std.specs.Prelude.{◌≡◌, ℕ, ◌+◌, ◌≤◌, Bool, true, false, ◌==◌, length, List, Option, Some, None}
 use Rattle.std.specs.List.{filter_map, list_all, list_any}
+use Rattle.dn_names.specs.Names.{same_name}
 use Rattle.entry_writes.specs.declared.entry.Entry.{Entry}
 use Rattle.entry_writes.specs.declared.touched.EntryChange.{EntryChange}
 use Rattle.entry_writes.specs.State.{entry_at, entry_named, most_entries, most_weight, same_named, total_weight}
@@ -27,6 +28,11 @@ is_free changes (Some holder) = is_changed changes holder.uuid
 
 abbrev pub has_free_name : List Entry → List EntryChange → Entry → Bool
 has_free_name entries changes e = is_free changes (entry_named entries e.dn)
+
+-- what an identity has is of the name of this entry
+abbrev pub keeps_name : Option Entry → Entry → Bool
+keeps_name None e = false
+keeps_name (Some was) e = same_name was.dn e.dn
 
 -- the entries after the changes are no more and no heavier than a directory may have, each that the
 -- changes leave or make has a name that is free, and no two of these have one name

@@ -1,7 +1,7 @@
 -- Names that an equality pins: where no entry has a type but as its whole RDN, an equality of that
 -- type is True, directly below a base, of entries of one name alone.
-use Rattle.std.specs.Prelude.{◌≡◌, ◌<◌, ℕ, Bool, true, false, cond, not, ◌&&◌, ◌==◌, List, [], ◌∷◌, sum_by, Option, option_map, unwrap_or, All, bytes_eq, slice_index}
-use Rattle.std.specs.List.{list_all, list_any}
+use Rattle.std.specs.Prelude.{◌≡◌, ◌<◌, ℕ, Bool, true, false, cond, not, ◌&&◌, ◌==◌, List, [], ◌∷◌, length, sum_by, Option, Some, None, option_map, unwrap_or, All, bytes_eq, slice_index}
+use Rattle.std.specs.List.{list_all, list_any, zip}
 use Rattle.schema_rules.specs.declared.attributes.Attribute.{Attribute}
 use Rattle.dn_names.specs.Names.{TypeAndValue, is_child_of}
 use Rattle.dn_names.specs.Paths.{path_key}
@@ -54,6 +54,35 @@ strays_before kind changes = sum_by (λ change. found_stray kind change.before) 
 
 abbrev pub strays_after : ℕ → List EntryChange → ℕ
 strays_after kind changes = sum_by (λ change. found_stray kind change.after) changes
+
+-- ---- changes that leave these numbers as they are
+
+-- two attributes are of one type, and both are all of the RDN of their entries or none is
+abbrev pub is_counterpart : List TypeAndValue → List TypeAndValue → Attribute → Attribute → Bool
+is_counterpart own other a b =
+    (a.kind == b.kind)
+    && cond (is_whole_rdn own a) (is_whole_rdn other b) (not (is_whole_rdn other b))
+
+-- one by one the attributes of entries with these RDNs are so
+abbrev pub are_counterparts :
+    List TypeAndValue → List Attribute → List TypeAndValue → List Attribute → Bool
+are_counterparts own attrs other others =
+    (length attrs == length others)
+    && list_all (λ items. is_counterpart own other items.0 items.1) (zip attrs others)
+
+abbrev pub have_counterparts : Entry → Entry → Bool
+have_counterparts e d = are_counterparts (own_pairs e.dn) e.attrs (own_pairs d.dn) d.attrs
+
+-- an entry is replaced by such a one
+abbrev pub is_replaced : Option Entry → Option Entry → Bool
+is_replaced None after = false
+is_replaced (Some e) None = false
+is_replaced (Some e) (Some d) = have_counterparts e d
+
+abbrev pub keeps_types : EntryChange → Bool
+keeps_types change = is_replaced change.before change.after
+
+-- ---- how many there are
 
 -- the numbers say how many entries have each type so
 abbrev pub CountsStrays : List ℕ → List Entry → Type 0

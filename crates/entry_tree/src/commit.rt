@@ -1,5 +1,5 @@
 //! Commits: what a replica takes from its provider at one time (RFC 4533, section 3.3).
-ghost use Rattle.std.specs.Prelude.{◌≡◌, true, None, map, filter, IfOk, IfErr, OnOk, IsTrue};
+ghost use Rattle.std.specs.Prelude.{◌≡◌, [], ◌∷◌, true, None, map, filter, IfOk, IfErr, OnOk, IsTrue};
 ghost use Rattle.std.specs.BTreeMap as btree;
 ghost use Rattle.std.specs.Option.{option_copied};
 ghost use Rattle.std.specs.Ordering.{nat_cmp};
@@ -109,9 +109,25 @@ impl Tree {
             entry_changes ≡ touched self.now (committed self.now puts.now drops.now)) }
         ensures ascends { state.ascends self.now ≡ true }
     {
+        if let [entry] = puts {
+            if drops.is_empty() {
+                return self.change_to(entry);
+            }
+        }
         let uuids = ids_of(self.alloc, puts, drops)?;
         let latest = latest_of(self.alloc, puts)?;
         self.differences(&latest, &uuids)
+    }
+
+    /// What differs after an entry is put in the place of that of its identity.
+    fn change_to(&self, entry: &Entry) -> Result<Touched, NoMemory>
+        ensures exact { IfOk result (λ entry_changes.
+            entry_changes ≡ touched self.now (committed self.now (entry.now ∷ []) [])) }
+        ensures ascends { state.ascends self.now ≡ true }
+    {
+        let mut entry_changes = Touched::new(self.alloc);
+        entry_changes.push_difference(entry.uuid, self.get(entry.uuid), Some(entry))?;
+        Ok(entry_changes)
     }
 
     /// Which of these identities have another entry in the map than here.

@@ -1,6 +1,6 @@
 //! What a commit is judged by where no two entries before it have one name: the changes that it
 //! makes.
-ghost use Rattle.std.specs.Prelude.{◌≡◌, ℕ, ◌+◌, ◌≤◌, true, length, map, reverse, IfOk, IsTrue};
+ghost use Rattle.std.specs.Prelude.{◌≡◌, ℕ, ◌+◌, ◌≤◌, true, None, length, map, reverse, IfOk, IsTrue};
 ghost use Rattle.std.specs.List.{list_all};
 ghost use Rattle.std.specs.Option.{option_copied};
 ghost use Rattle.std.specs.Ordering.{nat_cmp};
@@ -21,6 +21,7 @@ impl Tree {
     /// leave or make have names of their own, as far as the names of the others were apart. It
     /// looks at the changes alone.
     pub(crate) fn is_clear(&self, changes: &[EntryChange]) -> Result<bool, NoMemory>
+        requires { state.same_named self.now ≡ None }
         ensures clear { IfOk result (λ clear.
             IsTrue clear → spec.AreClear self.now changes.now) }
         ensures ascends { state.ascends self.now ≡ true }
@@ -52,6 +53,7 @@ impl Tree {
 
     /// Whether no entry has the name of one of these, but for entries that change.
     fn have_free_names(&self, put: &[&Entry], changes: &[EntryChange]) -> bool
+        requires { state.same_named self.now ≡ None }
         ensures { IsTrue result
             → list_all (spec.has_free_name self.now changes.now) (map (λ e. e.now) put.now)
             ≡ true }
@@ -64,13 +66,30 @@ impl Tree {
         true
     }
 
-    /// Whether no entry has the name of this one, or one that changes.
+    /// Whether no entry has the name of this one, or one that changes. Where its identity has the
+    /// name, no other entry does, and the name is not looked for.
     fn has_free_name(&self, entry: &Entry, changes: &[EntryChange]) -> bool
+        requires { state.same_named self.now ≡ None }
         ensures { IsTrue result → spec.has_free_name self.now changes.now entry.now ≡ true }
     {
+        if self.keeps_name(entry) {
+            return is_changed(changes, entry.uuid);
+        }
         match self.find(&entry.dn) {
             None => true,
             Some(holder) => is_changed(changes, holder.uuid),
+        }
+    }
+
+    /// Whether the identity of the entry has an entry of its name.
+    fn keeps_name(&self, entry: &Entry) -> bool
+        ensures kept { result
+            ≡ spec.keeps_name (state.entry_at self.now entry.now.uuid) entry.now }
+        ensures ascends { state.ascends self.now ≡ true }
+    {
+        match self.get(entry.uuid) {
+            Some(was) => was.dn.same(&entry.dn),
+            None => false,
         }
     }
 }

@@ -1,12 +1,12 @@
 //! The identities of entries by the path keys of their names, in order.
-ghost use Rattle.std.specs.Prelude.{◌≡◌, ◌<◌, ℕ, ◌&&◌, ◌==◌, true, false, not, [], length, filter, IfOk, IfSome, OnOk, if◌then◌else◌, bytes_eq};
-ghost use Rattle.std.specs.List.{list_any};
+ghost use Rattle.std.specs.Prelude.{◌≡◌, ◌<◌, ℕ, ◌==◌, true, false, not, [], length, filter, IfOk, OnOk, if◌then◌else◌, bytes_eq};
+ghost use Rattle.std.specs.List.{flat_map, list_any};
 ghost use Rattle.entry_tree.specs.NameIndex as index;
 ghost use Rattle.entry_writes.specs.Touched.{joined};
 
 use crate::after::add_each;
 use ldap_ber::NoMemory;
-use shared_map::{MapPair, SharedMap};
+use shared_map::SharedMap;
 use std::alloc::Global;
 use std::collections::BTreeSet;
 
@@ -64,10 +64,17 @@ fn write(
         let _ = names.len();
         return names.remove(path);
     }
-    match same_pair(like, path, &uuids) {
-        Some(pair) => names.insert_shared(pair),
-        None => write_anew(alloc, names, path, uuids),
+    match like.pair_at(path) {
+        Some(pair) if are_same(pair.value(), &uuids) => names.insert_shared(pair),
+        _ => write_anew(alloc, names, path, uuids),
     }
+}
+
+/// Whether these are the same identities in the same order.
+fn are_same(ids: &Vec<u128>, others: &Vec<u128>) -> bool
+    ensures { result ≡ bytes_eq ids.now.items others.now.items }
+{
+    ids.as_slice() == others.as_slice()
 }
 
 /// The same for some identities, in memory of their own.
@@ -84,32 +91,6 @@ fn write_anew(
 {
     let key = copied(alloc, path)?;
     names.insert(key, uuids)
-}
-
-/// The pair of the path key, where these identities stand there in this order.
-fn same_pair<'a>(
-    names: &'a Names,
-    path: &[u8],
-    uuids: &[u128],
-) -> Option<&'a MapPair<Vec<u8>, Vec<u128>>>
-    ensures { IfSome result (λ pair.
-        (pair.now.key.value.items ≡ path.now) × (pair.now.value.value.items ≡ uuids.now)) }
-{
-    let Some(pair) = names.pair_from(path) else {
-        return None;
-    };
-    if is_pair_of(pair, path, uuids) {
-        return Some(pair);
-    }
-    None
-}
-
-/// Whether these identities stand at the path key in this order.
-fn is_pair_of(pair: &MapPair<Vec<u8>, Vec<u128>>, path: &[u8], uuids: &[u128]) -> bool
-    ensures { result ≡ (bytes_eq pair.now.key.value.items path.now
-        && bytes_eq pair.now.value.value.items uuids.now) }
-{
-    pair.key().as_slice() == path && pair.value().as_slice() == uuids
 }
 
 /// The identities at the path key, without this one; where there are none, with room for one.
@@ -206,15 +187,18 @@ pub(crate) fn ids_within(
     ensures { IfOk result (λ uuids.
         uuids.keys ≡ joined [] (index.ids_within names.now path.now)) }
 {
+    let lists = names.values_within(path)?;
+    ids_of_each(alloc, &lists)
+}
+
+/// The identities of all these lists.
+fn ids_of_each(alloc: Global, lists: &[&Vec<u128>]) -> Result<BTreeSet<u128>, NoMemory>
+    ensures { IfOk result (λ uuids.
+        uuids.keys ≡ joined [] (flat_map (λ ids. ids.now.items) lists.now)) }
+{
     let mut uuids = BTreeSet::new(alloc);
-    let _ = names.len();
-    let mut next = names.next_from(path);
-    while let Some((key, ids)) = next {
-        if !key.starts_with(path) {
-            return Ok(uuids);
-        }
-        add_each(&mut uuids, ids)?;
-        next = names.next_after(key.as_slice());
+    for ids in lists {
+        add_each(&mut uuids, ids.as_slice())?;
     }
     Ok(uuids)
 }

@@ -88,7 +88,7 @@ fn equality(filter: &Filter) -> Option<(&Octets, &Octets)>
     ensures { IfSome result (λ item. tree_of filter.now ≡ equal item.0.now item.1.now) }
 {
     match filter {
-        Filter::Equal(name, value) => Some((name, value)),
+        Filter::Equal(item) => Some((&item.name, &item.value)),
         _ => None,
     }
 }

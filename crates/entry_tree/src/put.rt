@@ -1,10 +1,9 @@
 //! Changes that are put in place.
-ghost use Rattle.std.specs.Prelude.{◌≡◌, ◌≤◌, ◌+◌, ◌-◌, ◌^◌, ◌&&◌, ◌==◌, min, true, [], ◌∷◌, fold, IfOk, IfSome, OnOk, OnErr};
+ghost use Rattle.std.specs.Prelude.{◌≡◌, ◌≤◌, ◌+◌, ◌-◌, ◌^◌, min, true, [], ◌∷◌, fold, IfOk, OnOk, OnErr};
 ghost use Rattle.std.specs.BTreeMap.{is_at, insert_entry};
 ghost use Rattle.std.specs.Map.{remove_entry, values_of};
 ghost use Rattle.std.specs.Ordering.{nat_cmp};
 ghost use Rattle.entry_tree.specs.NameIndex.{by_identity};
-ghost use Rattle.entry_writes.specs.Bytes as bytes;
 ghost use Rattle.entry_writes.specs.State as state;
 ghost use Rattle.entry_writes.specs.Touched as changing;
 
@@ -13,7 +12,6 @@ use crate::strays::strays_with;
 use crate::tree::{Entries, Tree};
 use entry_writes::{Entry, EntryChange, Touched, is_one_entry};
 use ldap_ber::NoMemory;
-use shared_map::MapPair;
 
 impl Tree {
     /// Puts changes in place that are exactly what differs after them and leave a directory, as
@@ -139,32 +137,10 @@ fn put_entry(entries: &mut Entries, like: &Entries, entry: &Entry) -> Result<(),
         (entries.new ≡ insert_entry nat_cmp entries.old entry.now.uuid entry.now) }
     ensures err { OnErr result (entries.new ≡ entries.old) }
 {
-    match same_pair(like, entry) {
-        Some(pair) => entries.insert_shared(pair),
-        None => entries.insert(entry.uuid, entry.copy()?),
+    match like.pair_at(&entry.uuid) {
+        Some(pair) if is_one_entry(pair.value(), entry) => entries.insert_shared(pair),
+        _ => entries.insert(entry.uuid, entry.copy()?),
     }
-}
-
-/// The pair of the entry, where it is among the entries.
-fn same_pair<'a>(entries: &'a Entries, entry: &Entry) -> Option<&'a MapPair<u128, Entry>>
-    ensures { IfSome result (λ pair.
-        (pair.now.key.value ≡ entry.now.uuid) × (pair.now.value.value ≡ entry.now)) }
-{
-    let Some(pair) = entries.pair_from(&entry.uuid) else {
-        return None;
-    };
-    if is_pair_of(pair, entry) {
-        return Some(pair);
-    }
-    None
-}
-
-/// Whether it is the entry at its identity.
-fn is_pair_of(pair: &MapPair<u128, Entry>, entry: &Entry) -> bool
-    ensures { result ≡ ((pair.now.key.value == entry.now.uuid)
-        && bytes.is_one_entry pair.now.value.value entry.now) }
-{
-    *pair.key() == entry.uuid && is_one_entry(pair.value(), entry)
 }
 
 /// What entries that weigh so much weigh after the changes.

@@ -1,6 +1,6 @@
 //! How many entries have each type otherwise than as their whole RDN.
-ghost use Rattle.std.specs.Prelude.{◌≡◌, ◌≢◌, ◌≤◌, ◌<◌, ◌+◌, ◌-◌, ◌^◌, ℕ, IsTrue, bytes_eq, cond, slice_index};
-ghost use Rattle.std.specs.List.{list_all};
+ghost use Rattle.std.specs.Prelude.{◌≡◌, ◌≢◌, ◌≤◌, ◌<◌, ◌+◌, ◌-◌, ◌^◌, ℕ, IsTrue, bytes_eq, cond, not, slice_index};
+ghost use Rattle.std.specs.List.{list_all, zip};
 ghost use Rattle.entry_tree.specs.Pinned as spec;
 ghost use Rattle.entry_writes.specs.State as state;
 
@@ -46,6 +46,9 @@ pub(crate) fn strays_with(strays: &Strays, changes: &[EntryChange]) -> Strays
         → slice_index result kind + spec.strays_before kind changes.now
         ≡ slice_index strays.now kind + spec.strays_after kind changes.now }
 {
+    if all_keep_types(changes) {
+        return *strays;
+    }
     let gone = strays_before(changes);
     let come = strays_after(changes);
     let mut counts = no_strays();
@@ -55,6 +58,79 @@ pub(crate) fn strays_with(strays: &Strays, changes: &[EntryChange]) -> Strays
         set_count(&mut counts, place, count);
     }
     counts
+}
+
+/// Whether each change replaces an entry by one that has the same types in the same way.
+fn all_keep_types(changes: &[EntryChange]) -> bool
+    ensures { result ≡ list_all spec.keeps_types changes.now }
+{
+    changes.iter().all(|change| keeps_types(change))
+}
+
+/// Whether the change replaces an entry by one that has the same types, each as its whole RDN or
+/// otherwise as before.
+fn keeps_types(change: &EntryChange) -> bool
+    ensures { result ≡ spec.keeps_types change.now }
+{
+    match &change.before {
+        Some(was) => match &change.after {
+            Some(entry) => have_counterparts(was, entry),
+            None => false,
+        },
+        None => false,
+    }
+}
+
+/// Whether the attributes of both entries are so, one by one.
+fn have_counterparts(was: &Entry, entry: &Entry) -> bool
+    ensures { result ≡ spec.have_counterparts was.now entry.now }
+{
+    let own = own_pairs(&was.dn);
+    let attributes = was.attrs.list();
+    let other = own_pairs(&entry.dn);
+    let others = entry.attrs.list();
+    are_counterparts(own, attributes, other, others)
+}
+
+/// Whether the attributes of entries with these RDNs are so, one by one.
+fn are_counterparts(
+    own: &[Pair],
+    attributes: &[Attribute],
+    other: &[Pair],
+    others: &[Attribute],
+) -> bool
+    ensures { result ≡ spec.are_counterparts own.now attributes.now other.now others.now }
+{
+    attributes.len() == others.len() && all_counterparts(own, attributes, other, others)
+}
+
+fn all_counterparts(
+    own: &[Pair],
+    attributes: &[Attribute],
+    other: &[Pair],
+    others: &[Attribute],
+) -> bool
+    ensures { result
+        ≡ list_all (λ items. spec.is_counterpart own.now other.now items.0 items.1)
+        (zip attributes.now others.now) }
+{
+    attributes
+        .iter()
+        .zip(others)
+        .all(|(one, next)| is_counterpart(own, one, other, next))
+}
+
+/// Whether both attributes are of one type, and each is all of its RDN or none is.
+fn is_counterpart(own: &[Pair], one: &Attribute, other: &[Pair], next: &Attribute) -> bool
+    ensures { result ≡ spec.is_counterpart own.now other.now one.now next.now }
+{
+    one.kind == next.kind && both_or_none(is_whole_rdn(own, one), is_whole_rdn(other, next))
+}
+
+fn both_or_none(one: bool, other: bool) -> bool
+    ensures { result ≡ cond one other (not other) }
+{
+    if one { other } else { !other }
 }
 
 /// Those of the entries before the changes.

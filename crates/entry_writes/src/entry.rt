@@ -9,12 +9,23 @@ use std::alloc::Global;
 use std::marker::Model;
 
 /// An entry: its identity, the CSN of the write that last changed it, its name and its attributes.
-#[derive(Drop)]
 pub struct Entry {
     pub uuid: u128,
     pub csn: Csn,
     pub dn: Dn,
     pub attrs: Attrs,
+}
+
+/// A call of its own, so that what drops an entry is one step.
+impl Drop for Entry {
+    fn drop(self) {
+        let Entry {
+            uuid: _,
+            csn: _,
+            dn: _dn,
+            attrs: _attrs,
+        } = self;
+    }
 }
 
 impl Entry {

@@ -9,11 +9,21 @@ use std::alloc::Global;
 use std::marker::Model;
 
 /// An identity whose entry a write changes: what it had, and what it has.
-#[derive(Drop)]
 pub struct EntryChange {
     pub uuid: u128,
     pub before: Option<Entry>,
     pub after: Option<Entry>,
+}
+
+/// A call of its own, so that what drops a change is one step.
+impl Drop for EntryChange {
+    fn drop(self) {
+        let EntryChange {
+            uuid: _,
+            before: _before,
+            after: _after,
+        } = self;
+    }
 }
 
 /// What a write changes, in ascending order of identity.

@@ -17,11 +17,21 @@ use sync_io::{Link, Piece, write_whole};
 
 /// A client of a link. Messages are written to it and read from it; after a fault other than
 /// `NoMemory` each call answers that fault again.
-#[derive(Drop)]
 pub struct Client<L> {
     link: L,
     received: Received,
     fault: Option<ClientFault>,
+}
+
+/// A call of its own, so that what drops a client is one step.
+impl<L: Drop> Drop for Client<L> {
+    fn drop(self) {
+        let Client {
+            link: _link,
+            received: _received,
+            fault: _,
+        } = self;
+    }
 }
 
 impl<L: Link> Client<L> {

@@ -1,16 +1,16 @@
 -- Filters that match have one truth on any attributes.
 use Rattle.std.proofs.Common.{◌≡◌, ℕ, true, false, ◌&&◌, Option, Some, None, List, ◌∷◌, refl, ap, ◌∙◌}
-use Rattle.std.specs.Option.{option_eq}
+use Rattle.std.specs.Option.{option_and_then, option_eq}
 use Rattle.std.specs.Str.{bytes_eq, str_eq_ignore_ascii_case}
 use Rattle.std.proofs.lemmas.Bool.{and_parts}
 use Rattle.std.proofs.lemmas.Slice.Eq.{bytes_eq-Decides, slice_eq-Decides}
 use Rattle.ldap_ber.specs.Octets.{lists_eq}
 use Rattle.schema_rules.specs.declared.attributes.Attribute.{Attribute}
 use Rattle.schema_rules.proofs.Tables.{type_named-alike}
-use Rattle.ldap_filter.specs.Matching.{asked_type, equal_test, at_least_test, at_most_test, substrings_test}
+use Rattle.ldap_filter.specs.Matching.{asked_key, asked_type, at_least_test, at_most_test, substrings_test, typed_key}
 use Rattle.ldap_filter.specs.Same.{same_item, same_pieces, same_tree, same_trees}
 use Rattle.ldap_filter.specs.FilterTree.{FilterTree, Trees, all_of, any_of, negated, equal, substrings, at_least, at_most, present, approx, extensible, no_trees, more_trees}
-use Rattle.ldap_filter.specs.Truth.{conjunction, disjunction, opposite, item_truth, presence, truth_on, truths_on}
+use Rattle.ldap_filter.specs.Truth.{conjunction, disjunction, equality, opposite, item_truth, presence, truth_on, truths_on}
 
 -- ---- filters
 
@@ -34,6 +34,11 @@ items_as : (n v m w : List ℕ) → same_item n v m w ≡ true → AreItems n v 
 items_as n v m w same =
     let both = and_parts (str_eq_ignore_ascii_case n m) (bytes_eq v w) same in
     record { type = asked_as n m both.0; value = (bytes_eq-Decides v w).0 both.1 }
+
+asks_as : (n v m w : List ℕ) → same_item n v m w ≡ true → asked_key n v ≡ asked_key m w
+asks_as n v m w same =
+    let is = items_as n v m w same in
+    ap (λ (kind : Option ℕ). option_and_then (typed_key v) kind) is.type ∙ ap (λ (x : List ℕ). asked_key m x) is.value
 
 mutual
   -- one of two filters that match has the truth of the other on any attributes
@@ -71,9 +76,7 @@ mutual
   truth_as attributes (equal n v) (all_of us) same = let never : false ≡ true = same in cc
   truth_as attributes (equal n v) (any_of us) same = let never : false ≡ true = same in cc
   truth_as attributes (equal n v) (negated u) same = let never : false ≡ true = same in cc
-  truth_as attributes (equal n v) (equal m w) same =
-      let is = items_as n v m w same in
-      ap (λ k. item_truth attributes k (λ kind. equal_test kind v)) is.type ∙ ap (λ x. item_truth attributes (asked_type m) (λ kind. equal_test kind x)) is.value
+  truth_as attributes (equal n v) (equal m w) same = ap (equality attributes) (asks_as n v m w same)
   truth_as attributes (equal n v) (substrings m j ks e) same = let never : false ≡ true = same in cc
   truth_as attributes (equal n v) (at_least m w) same = let never : false ≡ true = same in cc
   truth_as attributes (equal n v) (at_most m w) same = let never : false ≡ true = same in cc
@@ -139,9 +142,7 @@ mutual
   truth_as attributes (approx n v) (at_least m w) same = let never : false ≡ true = same in cc
   truth_as attributes (approx n v) (at_most m w) same = let never : false ≡ true = same in cc
   truth_as attributes (approx n v) (present m) same = let never : false ≡ true = same in cc
-  truth_as attributes (approx n v) (approx m w) same =
-      let is = items_as n v m w same in
-      ap (λ k. item_truth attributes k (λ kind. equal_test kind v)) is.type ∙ ap (λ x. item_truth attributes (asked_type m) (λ kind. equal_test kind x)) is.value
+  truth_as attributes (approx n v) (approx m w) same = ap (equality attributes) (asks_as n v m w same)
   truth_as attributes (approx n v) (extensible w) same = let never : false ≡ true = same in cc
   truth_as attributes (extensible v) (all_of us) same = let never : false ≡ true = same in cc
   truth_as attributes (extensible v) (any_of us) same = let never : false ≡ true = same in cc

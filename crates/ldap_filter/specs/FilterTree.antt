@@ -36,12 +36,12 @@ abbrev pub tree_step : Filter-F FilterTree (List FilterTree) → FilterTree
 tree_step (open'.And parts) = all_of (trees parts)
 tree_step (open'.Or parts) = any_of (trees parts)
 tree_step (open'.Not part) = negated part.value
-tree_step (open'.Equal name value) = equal name value
+tree_step (open'.Equal item) = equal item.name item.value
 tree_step (open'.Substrings name pieces) = substrings name pieces.initial pieces.middle pieces.last
 tree_step (open'.AtLeast name value) = at_least name value
 tree_step (open'.AtMost name value) = at_most name value
 tree_step (open'.Present name) = present name
-tree_step (open'.Approx name value) = approx name value
+tree_step (open'.Approx item) = approx item.name item.value
 tree_step (open'.Extensible body) = extensible body
 
 abbrev pub tree_of : Filter → FilterTree

@@ -1,5 +1,5 @@
 -- What an item of a filter asks of the key of a value (RFC 4511, sections 4.5.1.7.1 to 4.5.1.7.5).
-use Rattle.std.specs.Prelude.{◌≡◌, ℕ, Bool, true, false, ◌&&◌, if◌then◌else◌, List, [], ◌∷◌, length, drop, Option, Some, None, is_some, option_map, option_and_then, bytes_eq, nat_eq, int_le}
+use Rattle.std.specs.Prelude.{◌≡◌, ℕ, Bool, true, false, ◌&&◌, if◌then◌else◌, List, [], ◌∷◌, length, drop, Option, Some, None, is_some, option_map, option_and_then, nat_eq, int_le}
 use Rattle.std.specs.Cmp.Lexicographic.{slice_cmp}
 use Rattle.std.specs.List.{list_all, filter_map, starts_with, ends_with}
 use Rattle.std.specs.Option.{option_map_or}
@@ -12,14 +12,30 @@ use Rattle.schema_rules.specs.declared.types.Rule.{Rule}
 use Rattle.schema_rules.specs.declared.types.Rule.TheVariants.{Class, Folded, FoldedAscii, ExactAscii, Whole, Flag, Time, Operational}
 use Rattle.ldap_filter.specs.declared.matching.Rank.{Rank}
 use Rattle.ldap_filter.specs.declared.matching.Rank.TheVariants.{Number, Instant}
+use Rattle.ldap_filter.specs.declared.matching.AskedKey.{AskedKey}
 use Rattle.ldap_filter.specs.declared.matching.PieceKeys.{PieceKeys}
 use Rattle.ldap_filter.specs.declared.matching.Test.{Test}
-use Rattle.ldap_filter.specs.declared.matching.Test.TheVariants.{Equal, AtLeast, AtMost, Substrings}
+use Rattle.ldap_filter.specs.declared.matching.Test.TheVariants.{AtLeast, AtMost, Substrings}
 
 -- a type that clients give: one of the schema's, but none that the directory keeps itself
 abbrev pub asked_type : List ℕ → Option ℕ
 asked_type name =
     option_and_then (λ kind. if is_operational kind then None else Some kind) (type_named name)
+
+-- ---- equality
+
+-- what is asked for: a type and a key
+abbrev pub asked_of : ℕ → List ℕ → AskedKey
+asked_of kind key = record { kind = kind; key = key }
+
+-- the type with the key that the value has as one of it
+abbrev pub typed_key : List ℕ → ℕ → Option AskedKey
+typed_key value kind = option_map (asked_of kind) (key_of kind value)
+
+-- what an equality asks for, where its name is that of a type that clients give, and its value is
+-- of the syntax
+abbrev pub asked_key : List ℕ → List ℕ → Option AskedKey
+asked_key name value = option_and_then (typed_key value) (asked_type name)
 
 -- ---- order
 
@@ -124,7 +140,6 @@ has_pieces pieces text =
 
 -- what the key of a value has to pass
 abbrev pub passes : Rule → Test → List ℕ → Bool
-passes rule (Equal asked) key = bytes_eq asked key
 passes rule (AtLeast least) key =
     option_map_or (λ rank. is_at_most least rank) (rank_by rule key) false
 passes rule (AtMost most) key =
@@ -135,14 +150,12 @@ passes rule (Substrings pieces) key = has_pieces pieces key
 abbrev pub matches : ℕ → Test → List ℕ → Bool
 matches kind test value = option_map_or (passes (type_rule kind) test) (key_of kind value) false
 
--- the tests of the items, and none where the value is not of the syntax, or the
--- type has no such test
-abbrev pub equal_test : ℕ → List ℕ → Option Test
-equal_test kind value = option_map (λ key. Equal key) (key_of kind value)
-
+-- the rank of a value of the type
 abbrev pub rank_of : ℕ → List ℕ → Option Rank
 rank_of kind value = option_and_then (rank_by (type_rule kind)) (key_of kind value)
 
+-- the tests of the items, and none where the value is not of the syntax, or the
+-- type has no such test
 abbrev pub at_least_test : ℕ → List ℕ → Option Test
 at_least_test kind value = option_map (λ rank. AtLeast rank) (rank_of kind value)
 

@@ -3,10 +3,12 @@ use Rattle.std.specs.Prelude.{ℕ, Bool, true, false, ◌&&◌, ◌==◌, if◌t
 use Rattle.std.specs.List.{list_any}
 use Rattle.schema_rules.specs.declared.attributes.Attribute.{Attribute}
 use Rattle.schema_rules.specs.Attributes.{has_kind}
+use Rattle.schema_rules.specs.Keys.{has_key}
 use Rattle.ldap_filter.specs.declared.truth.Truth.{Truth}
 use Rattle.ldap_filter.specs.declared.truth.Truth.TheVariants.{True, False, Undefined}
+use Rattle.ldap_filter.specs.declared.matching.AskedKey.{AskedKey}
 use Rattle.ldap_filter.specs.declared.matching.Test.{Test}
-use Rattle.ldap_filter.specs.Matching.{asked_type, equal_test, at_least_test, at_most_test, substrings_test, matches}
+use Rattle.ldap_filter.specs.Matching.{asked_key, asked_type, at_least_test, at_most_test, substrings_test, matches}
 use Rattle.ldap_filter.specs.FilterTree.{FilterTree, Trees, all_of, any_of, negated, equal, substrings, at_least, at_most, present, approx, extensible, no_trees, more_trees}
 
 abbrev pub is_false : Truth → Bool
@@ -48,6 +50,16 @@ abbrev pub decided : Bool → Truth
 decided true = True
 decided false = False
 
+-- some value of the type has the key
+abbrev pub has_keyed : List Attribute → ℕ → List ℕ → Bool
+has_keyed attributes kind key =
+    list_any (λ a. (a.kind == kind) && list_any (has_key kind key) a.values) attributes
+
+-- an equality looks for the key that it asks for; where it asks for none, it is Undefined
+abbrev pub equality : List Attribute → Option AskedKey → Truth
+equality attributes None = Undefined
+equality attributes (Some asked) = decided (has_keyed attributes asked.kind asked.key)
+
 -- some value of the type passes the test
 abbrev pub has_match : List Attribute → ℕ → Test → Bool
 has_match attributes kind test =
@@ -72,8 +84,7 @@ abbrev mutual
   truth_on attributes (all_of ts) = conjunction (truths_on attributes ts)
   truth_on attributes (any_of ts) = disjunction (truths_on attributes ts)
   truth_on attributes (negated t) = opposite (truth_on attributes t)
-  truth_on attributes (equal name value) =
-      item_truth attributes (asked_type name) (λ kind. equal_test kind value)
+  truth_on attributes (equal name value) = equality attributes (asked_key name value)
   truth_on attributes (substrings name initial middle last) =
       item_truth attributes (asked_type name) (λ kind. substrings_test kind initial middle last)
   truth_on attributes (at_least name value) =
@@ -81,8 +92,7 @@ abbrev mutual
   truth_on attributes (at_most name value) =
       item_truth attributes (asked_type name) (λ kind. at_most_test kind value)
   truth_on attributes (present name) = presence attributes (asked_type name)
-  truth_on attributes (approx name value) =
-      item_truth attributes (asked_type name) (λ kind. equal_test kind value)
+  truth_on attributes (approx name value) = equality attributes (asked_key name value)
   truth_on attributes (extensible body) = Undefined
 
   pub truths_on : List Attribute → Trees → List Truth

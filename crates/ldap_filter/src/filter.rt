@@ -2,6 +2,7 @@
 ghost use Rattle.std.specs.Prelude.{◌≡◌, [], ◌∷◌, ◌++◌, true, IfOk, OnOk, OnErr};
 ghost use Rattle.ldap_filter.specs.Pieces.{has_piece};
 
+use crate::equality::Equality;
 use ldap_ber::{NoMemory, Octets, OctetsList};
 use std::alloc::Global;
 
@@ -12,18 +13,37 @@ pub enum Filter {
     And(FilterList),
     Or(FilterList),
     Not(Box<Filter>),
-    Equal(Octets, Octets),
+    Equal(Equality),
     Substrings(Octets, Pieces),
     AtLeast(Octets, Octets),
     AtMost(Octets, Octets),
     Present(Octets),
-    Approx(Octets, Octets),
+    Approx(Equality),
     /// The body of the element of an extensible match, as it came.
     Extensible(Octets),
 }
 
+impl Filter {
+    ghost use Rattle.ldap_filter.specs.FilterTree.{approx, equal, tree_of};
+
+    /// Makes the equality of this name and value. It is `NoMemory` where memory runs out.
+    pub fn equality(alloc: Global, name: Octets, value: Octets) -> Result<Filter, NoMemory>
+        ensures { IfOk result (λ filter. tree_of filter ≡ equal name value) }
+    {
+        let equality = Equality::new(alloc, name, value)?;
+        Ok(Filter::Equal(equality))
+    }
+
+    /// Makes the approximate match of this name and value. It is `NoMemory` where memory runs out.
+    pub fn approximation(alloc: Global, name: Octets, value: Octets) -> Result<Filter, NoMemory>
+        ensures { IfOk result (λ filter. tree_of filter ≡ approx name value) }
+    {
+        let equality = Equality::new(alloc, name, value)?;
+        Ok(Filter::Approx(equality))
+    }
+}
+
 /// The pieces of a value, one at least.
-#[derive(Drop)]
 pub struct Pieces {
     /// What the value begins with.
     pub initial: Option<Octets>,
@@ -32,6 +52,17 @@ pub struct Pieces {
     /// What the value ends with, after all others.
     pub last: Option<Octets>,
     ghost some: { has_piece initial middle last ≡ true },
+}
+
+/// A call of its own, so that what drops the pieces is one step.
+impl Drop for Pieces {
+    fn drop(self) {
+        let Pieces {
+            initial: _initial,
+            middle: _middle,
+            last: _last,
+        } = self;
+    }
 }
 
 /// A list of filters.

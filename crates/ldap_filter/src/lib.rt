@@ -3,6 +3,7 @@
 #![tactic(auto)]
 
 mod cursor;
+mod equality;
 mod fault;
 mod filter;
 mod grammar;
@@ -12,6 +13,7 @@ mod same;
 mod truth;
 mod writing;
 
+pub use equality::Equality;
 pub use fault::FilterFault;
 pub use filter::{Filter, FilterList, Pieces};
 pub use truth::Truth;

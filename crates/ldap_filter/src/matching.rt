@@ -11,7 +11,7 @@ ghost use Rattle.ldap_filter.specs.Truth as truth;
 
 use crate::filter::Pieces;
 use ldap_ber::{NoMemory, Octets, OctetsList};
-use schema_rules::{Attribute, AttributeType, Rule, known_key};
+use schema_rules::{Attribute, AttributeType, Rule, any_has_key, known_key};
 use std::alloc::{AllocError, Global};
 use std::str;
 use text_keys::{KeyFault, piece_key};
@@ -31,10 +31,16 @@ pub(crate) struct PieceKeys {
     last: Option<Octets>,
 }
 
+/// The type and the key that an equality asks for.
+#[derive(Drop)]
+pub(crate) struct AskedKey {
+    pub(crate) kind: AttributeType,
+    pub(crate) key: Octets,
+}
+
 /// What the key of a value has to pass.
 #[derive(Drop)]
 pub(crate) enum Test {
-    Equal(Octets),
     AtLeast(Rank),
     AtMost(Rank),
     Substrings(PieceKeys),
@@ -48,16 +54,21 @@ pub(crate) fn asked_type(name: &[u8]) -> Option<AttributeType>
     if kind.operational() { None } else { Some(kind) }
 }
 
-pub(crate) fn equal_test(
+/// What an equality of this name and value asks for, where the name is that of a type that clients
+/// give, and the value is of its syntax.
+pub(crate) fn asked_key(
     alloc: Global,
-    kind: AttributeType,
+    name: &[u8],
     value: &[u8],
-) -> Result<Option<Test>, NoMemory>
-    ensures { IfOk result (λ test. test ≡ spec.equal_test kind value.now) }
+) -> Result<Option<AskedKey>, NoMemory>
+    ensures { IfOk result (λ asked. asked ≡ spec.asked_key name.now value.now) }
 {
-    match key_of(alloc, kind, value)? {
+    let Some(kind) = asked_type(name) else {
+        return Ok(None);
+    };
+    match known_key(alloc, kind, value)? {
         None => Ok(None),
-        Some(key) => Ok(Some(Test::Equal(key))),
+        Some(key) => Ok(Some(AskedKey { kind, key })),
     }
 }
 
@@ -100,6 +111,23 @@ pub(crate) fn substrings_test(
         None => Ok(None),
         Some(keys) => Ok(Some(Test::Substrings(keys))),
     }
+}
+
+/// Whether some value of the type has the key.
+pub(crate) fn has_keyed(
+    alloc: Global,
+    attributes: &[Attribute],
+    kind: AttributeType,
+    key: &[u8],
+) -> Result<bool, NoMemory>
+    ensures { IfOk result (λ found. found ≡ truth.has_keyed attributes.now kind key.now) }
+{
+    for attribute in attributes {
+        if attribute.kind == kind && any_has_key(alloc, kind, key, attribute.values.list())? {
+            return Ok(true);
+        }
+    }
+    Ok(false)
 }
 
 /// Whether some value of the type passes the test.
@@ -155,7 +183,6 @@ impl Test {
         ensures { result ≡ spec.passes rule self.now key }
     {
         match self {
-            Test::Equal(asked) => *asked == key,
             Test::AtLeast(least) => match rank_by(rule, key) {
                 None => false,
                 Some(rank) => is_at_most(least, &rank),

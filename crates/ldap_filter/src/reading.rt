@@ -169,7 +169,8 @@ fn item_of(alloc: Global, cursor: &mut FilterCursor, name: Octets) -> Result<Fil
         return equality(alloc, cursor, name);
     }
     if cursor.passes(b'~') {
-        return Ok(Filter::Approx(name, compared(alloc, cursor)?));
+        let value = compared(alloc, cursor)?;
+        return Ok(Filter::approximation(alloc, name, value)?);
     }
     if cursor.passes(b'>') {
         return Ok(Filter::AtLeast(name, compared(alloc, cursor)?));
@@ -214,7 +215,10 @@ fn asserted(
     ensures { IfOk result (λ filter. tree_of filter ≡ spec.asserted name first beyond.items) }
 {
     match beyond.pop() {
-        None => Ok(Filter::Equal(name, first)),
+        None => {
+            let filter = Filter::equality(alloc, name, first)?;
+            Ok(filter)
+        }
         Some(last) => {
             let middle = list_of(alloc, beyond)?;
             Ok(pieced(name, first, middle, last))

@@ -4,7 +4,9 @@ ghost use Rattle.std.specs.Option.{option_eq};
 ghost use Rattle.ldap_filter.specs.Same.{same_name, same_tree, same_trees, same_item};
 ghost use Rattle.ldap_filter.specs.FilterTree.{tree_of, trees, parts_of};
 
+use crate::equality::Equality;
 use crate::filter::{Filter, FilterList, Pieces};
+use crate::matching::AskedKey;
 use ldap_ber::{NoMemory, Octets};
 
 impl Filter {
@@ -21,14 +23,14 @@ impl Filter {
                 let copy = part.copy()?;
                 Ok(Filter::Not(Box::new(*Box::allocator(part), copy)?))
             }
-            Filter::Equal(name, value) => Ok(Filter::Equal(name.copy()?, value.copy()?)),
+            Filter::Equal(equality) => Ok(Filter::Equal(equality.copy()?)),
             Filter::Substrings(name, pieces) => {
                 Ok(Filter::Substrings(name.copy()?, pieces.copy()?))
             }
             Filter::AtLeast(name, value) => Ok(Filter::AtLeast(name.copy()?, value.copy()?)),
             Filter::AtMost(name, value) => Ok(Filter::AtMost(name.copy()?, value.copy()?)),
             Filter::Present(name) => Ok(Filter::Present(name.copy()?)),
-            Filter::Approx(name, value) => Ok(Filter::Approx(name.copy()?, value.copy()?)),
+            Filter::Approx(equality) => Ok(Filter::Approx(equality.copy()?)),
             Filter::Extensible(body) => Ok(Filter::Extensible(body.copy()?)),
         }
     }
@@ -43,9 +45,8 @@ impl Filter {
             Filter::And(parts) => matches!(other, Filter::And(others) if parts.same(others)),
             Filter::Or(parts) => matches!(other, Filter::Or(others) if parts.same(others)),
             Filter::Not(part) => matches!(other, Filter::Not(opposed) if part.same(opposed)),
-            Filter::Equal(name, value) => {
-                matches!(other, Filter::Equal(other_name, other_value)
-                    if is_same_item(name, value, other_name, other_value))
+            Filter::Equal(equality) => {
+                matches!(other, Filter::Equal(other_equality) if equality.same(other_equality))
             }
             Filter::Substrings(name, pieces) => {
                 matches!(other, Filter::Substrings(other_name, others)
@@ -62,9 +63,8 @@ impl Filter {
             Filter::Present(name) => {
                 matches!(other, Filter::Present(other_name) if is_same_name(name, other_name))
             }
-            Filter::Approx(name, value) => {
-                matches!(other, Filter::Approx(other_name, other_value)
-                    if is_same_item(name, value, other_name, other_value))
+            Filter::Approx(equality) => {
+                matches!(other, Filter::Approx(other_equality) if equality.same(other_equality))
             }
             Filter::Extensible(body) => {
                 matches!(other, Filter::Extensible(other_body) if body == other_body)
@@ -103,6 +103,36 @@ impl FilterList {
     }
 }
 
+impl Equality {
+    fn copy(&self) -> Result<Equality, NoMemory>
+        ensures name { IfOk result (λ equality. equality.name ≡ self.now.name) }
+        ensures value { IfOk result (λ equality. equality.value ≡ self.now.value) }
+    {
+        let name = self.name.copy()?;
+        let value = self.value.copy()?;
+        let asked = copy_of_asked(&self.asked)?;
+        Ok(Equality { name, value, asked })
+    }
+
+    fn same(&self, other: &Equality) -> bool
+        ensures { result
+            ≡ same_item self.now.name self.now.value other.now.name other.now.value }
+    {
+        is_same_item(&self.name, &self.value, &other.name, &other.value)
+    }
+}
+
+impl AskedKey {
+    fn copy(&self) -> Result<AskedKey, NoMemory>
+        ensures { IfOk result (λ asked. asked ≡ self.now) }
+    {
+        Ok(AskedKey {
+            kind: self.kind,
+            key: self.key.copy()?,
+        })
+    }
+}
+
 impl Pieces {
     ghost use Rattle.ldap_filter.specs.Same.{same_pieces};
 
@@ -129,6 +159,15 @@ impl Pieces {
         is_same_piece(&self.initial, &other.initial)
             && self.middle == other.middle
             && is_same_piece(&self.last, &other.last)
+    }
+}
+
+fn copy_of_asked(asked: &Option<AskedKey>) -> Result<Option<AskedKey>, NoMemory>
+    ensures { IfOk result (λ copy. copy ≡ asked.now) }
+{
+    match asked {
+        None => Ok(None),
+        Some(asked) => Ok(Some(asked.copy()?)),
     }
 }
 

@@ -4,9 +4,10 @@ ghost use Rattle.ldap_filter.specs.Matching as matching;
 ghost use Rattle.ldap_filter.specs.FilterTree.{tree_of, trees, parts_of};
 ghost use Rattle.ldap_filter.specs.Truth as spec;
 
+use crate::equality::Equality;
 use crate::filter::{Filter, FilterList, Pieces};
 use crate::matching::{
-    Test, asked_type, at_least_test, at_most_test, equal_test, has_match, substrings_test,
+    AskedKey, Test, asked_type, at_least_test, at_most_test, has_keyed, has_match, substrings_test,
 };
 use ldap_ber::{NoMemory, Octets};
 use schema_rules::{Attribute, AttributeType, Attrs, has_kind};
@@ -49,8 +50,8 @@ impl Filter {
             Filter::And(parts) => parts.conjunction_on(alloc, attrs),
             Filter::Or(parts) => parts.disjunction_on(alloc, attrs),
             Filter::Not(part) => Ok(part.value_on(alloc, attrs)?.opposite()),
-            Filter::Equal(name, value) | Filter::Approx(name, value) => {
-                equality_on(alloc, attrs.list(), name, value)
+            Filter::Equal(equality) | Filter::Approx(equality) => {
+                equality_on(alloc, attrs.list(), equality)
             }
             Filter::Substrings(name, pieces) => { substrings_on(alloc, attrs.list(), name, pieces) }
             Filter::AtLeast(name, value) => at_least_on(alloc, attrs.list(), name, value),
@@ -104,18 +105,30 @@ impl FilterList {
 fn equality_on(
     alloc: Global,
     attributes: &[Attribute],
-    name: &Octets,
-    value: &Octets,
+    equality: &Equality,
 ) -> Result<Truth, NoMemory>
     ensures { IfOk result (λ truth. truth
-        ≡ spec.item_truth attributes.now (matching.asked_type name.now) (λ kind.
-        matching.equal_test kind value.now)) }
+        ≡ spec.equality attributes.now
+        (matching.asked_key equality.now.name equality.now.value)) }
 {
-    let Some(kind) = asked_type(name.as_slice()) else {
-        return Ok(Truth::Undefined);
-    };
-    let test = equal_test(alloc, kind, value.as_slice())?;
-    tried_on(alloc, attributes, kind, test)
+    asked_on(alloc, attributes, &equality.asked)
+}
+
+/// An equality that asks for nothing is Undefined.
+fn asked_on(
+    alloc: Global,
+    attributes: &[Attribute],
+    asked: &Option<AskedKey>,
+) -> Result<Truth, NoMemory>
+    ensures { IfOk result (λ truth. truth ≡ spec.equality attributes.now asked.now) }
+{
+    match asked {
+        None => Ok(Truth::Undefined),
+        Some(asked) => {
+            let found = has_keyed(alloc, attributes, asked.kind, asked.key.as_slice())?;
+            Ok(Truth::decided(found))
+        }
+    }
 }
 
 fn at_least_on(

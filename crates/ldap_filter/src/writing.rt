@@ -47,12 +47,12 @@ impl Filter {
                 text.push(b')')?;
                 Ok(())
             }
-            Filter::Equal(name, value) => put_item(text, name, b"=", value),
+            Filter::Equal(equality) => put_item(text, &equality.name, b"=", &equality.value),
             Filter::Substrings(name, pieces) => put_substrings(text, name, pieces),
             Filter::AtLeast(name, value) => put_item(text, name, b">=", value),
             Filter::AtMost(name, value) => put_item(text, name, b"<=", value),
             Filter::Present(name) => put_presence(text, name),
-            Filter::Approx(name, value) => put_item(text, name, b"~=", value),
+            Filter::Approx(equality) => put_item(text, &equality.name, b"~=", &equality.value),
             Filter::Extensible(_) => Err(FilterFault::NoText),
         }
     }

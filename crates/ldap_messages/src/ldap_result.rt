@@ -21,7 +21,6 @@ use ldap_parts::{ComponentFault, number_of, octet_string_of, put_strings};
 use std::alloc::Global;
 
 /// The result of an operation.
-#[derive(Drop)]
 pub struct LdapResult {
     /// The result code (RFC 4511, appendix A), whatever number came.
     pub code: i64,
@@ -30,6 +29,18 @@ pub struct LdapResult {
     pub diagnostic_message: Octets,
     /// Where to ask further: one URI at least.
     pub referral: Option<OctetsList>,
+}
+
+/// A call of its own, so that what drops a result is one step.
+impl Drop for LdapResult {
+    fn drop(self) {
+        let LdapResult {
+            code: _,
+            matched_dn: _matched_dn,
+            diagnostic_message: _diagnostic_message,
+            referral: _referral,
+        } = self;
+    }
 }
 
 /// The response with this tag that comes next.

@@ -33,7 +33,7 @@ ghost use Rattle.ldap_filter.specs.FilterTree.{tree_of, parts_of};
 ghost use Rattle.ldap_ber.specs.Gives.{Gives};
 ghost use Rattle.ldap_parts.specs.Faults.{ComponentFails, place_of};
 ghost use Rattle.ldap_parts.specs.Components.{octet_string_at};
-ghost use Rattle.ldap_parts.specs.Filters.{while_at, pieces_at, substrings_at, substrings_with, assertion_at, item_at, filter_in};
+ghost use Rattle.ldap_parts.specs.Filters.{while_at, pieces_at, substrings_at, substrings_with, assertion_at, equal_with, approx_with, item_at, filter_in};
 
 use crate::component::{octet_string_of, option_of};
 use crate::fault::ComponentFault;
@@ -144,8 +144,7 @@ fn item_of(alloc: Global, reader: &mut Reader) -> Result<Filter, ComponentFault>
     ensures err { OnErr result (reader.new ≡ reader.old) }
 {
     if reader.has(0xA3) {
-        let (name, value) = assertion_of(alloc, reader, 0xA3)?;
-        return Ok(Filter::Equal(name, value));
+        return equality_of(alloc, reader);
     }
     if reader.has(0xA4) {
         return substrings_of(alloc, reader);
@@ -162,10 +161,39 @@ fn item_of(alloc: Global, reader: &mut Reader) -> Result<Filter, ComponentFault>
         return Ok(Filter::Present(octet_string_of(alloc, reader, 0x87)?));
     }
     if reader.has(0xA8) {
-        let (name, value) = assertion_of(alloc, reader, 0xA8)?;
-        return Ok(Filter::Approx(name, value));
+        return approximation_of(alloc, reader);
     }
     Ok(Filter::Extensible(octet_string_of(alloc, reader, 0xA9)?))
+}
+
+/// The equality that comes next.
+fn equality_of(alloc: Global, reader: &mut Reader) -> Result<Filter, ComponentFault>
+    ensures exact { Gives ComponentFails (λ filter. Ok (tree_of filter, reader.new.left)) result
+        (made_at equal_with (assertion_at 163) reader.old.stop reader.old.left) }
+    ensures stop { reader.new.stop ≡ reader.old.stop }
+    ensures shorter { OnOk result (length reader.new.left < length reader.old.left) }
+    ensures err { OnErr result (reader.new ≡ reader.old) }
+{
+    let mut ahead = reader.copy();
+    let (name, value) = assertion_of(alloc, &mut ahead, 0xA3)?;
+    let filter = Filter::equality(alloc, name, value)?;
+    *reader = ahead;
+    Ok(filter)
+}
+
+/// The approximate match that comes next.
+fn approximation_of(alloc: Global, reader: &mut Reader) -> Result<Filter, ComponentFault>
+    ensures exact { Gives ComponentFails (λ filter. Ok (tree_of filter, reader.new.left)) result
+        (made_at approx_with (assertion_at 168) reader.old.stop reader.old.left) }
+    ensures stop { reader.new.stop ≡ reader.old.stop }
+    ensures shorter { OnOk result (length reader.new.left < length reader.old.left) }
+    ensures err { OnErr result (reader.new ≡ reader.old) }
+{
+    let mut ahead = reader.copy();
+    let (name, value) = assertion_of(alloc, &mut ahead, 0xA8)?;
+    let filter = Filter::approximation(alloc, name, value)?;
+    *reader = ahead;
+    Ok(filter)
 }
 
 /// The type and the value of the element with this tag that comes next (RFC 4511, section 4.1.6).

@@ -39,12 +39,12 @@ pub fn put_filter(writer: &mut Writer, filter: &Filter) -> Result<(), NoMemory>
             let body = put_filter(writer, part);
             writer.end_after(body)
         }
-        Filter::Equal(name, value) => put_assertion(writer, 0xA3, name, value),
+        Filter::Equal(item) => put_assertion(writer, 0xA3, &item.name, &item.value),
         Filter::Substrings(name, pieces) => put_substrings(writer, name, pieces),
         Filter::AtLeast(name, value) => put_assertion(writer, 0xA5, name, value),
         Filter::AtMost(name, value) => put_assertion(writer, 0xA6, name, value),
         Filter::Present(name) => writer.octets(0x87, name.as_slice()),
-        Filter::Approx(name, value) => put_assertion(writer, 0xA8, name, value),
+        Filter::Approx(item) => put_assertion(writer, 0xA8, &item.name, &item.value),
         Filter::Extensible(body) => writer.octets(0xA9, body.as_slice()),
     }
 }

@@ -25,13 +25,24 @@ pub struct Out {
 }
 
 /// A session with one peer, over a port of a directory.
-#[derive(Drop)]
 pub struct Connection<P> {
     session: Session<P>,
     access: Access,
     /// What came of a message that is not whole.
     kept: Vec<u8>,
     ended: Option<Ended>,
+}
+
+/// A call of its own, so that what drops a connection is one step.
+impl<P: Drop> Drop for Connection<P> {
+    fn drop(self) {
+        let Connection {
+            session: _session,
+            access: _access,
+            kept: _kept,
+            ended: _,
+        } = self;
+    }
 }
 
 impl<P: Port> Connection<P> {

@@ -15,8 +15,8 @@ use std::process::Abort;
 use std::test::Fail;
 use sync_messages::{Mode, SyncDone, SyncRequest};
 use sync_wire::{
-    DecodeFault, SyncEvent, decode, delete_message, done_message, end_message, entry_message,
-    id_set_message, search_request, tag_of,
+    DecodeFault, KnownNames, SyncEvent, decode, decode_beside, delete_message, done_message,
+    end_message, entry_message, id_set_message, search_request, tag_of,
 };
 
 // What these calls answer is compared when the tests run: the proofs of the tests know nothing of
@@ -610,6 +610,49 @@ const ENTRIES: [Row; 3] = [
 fn entries_are_decoded(rt: HostRuntime) -> Result<(), Fail> {
     assert_decoded(&rt, rt.alloc(), &ENTRIES, false)?;
     assert_decoded(&rt, rt.alloc(), &ENTRIES, true)
+}
+
+/// A name that is known of one identity.
+#[derive(Drop)]
+struct KnownName {
+    uuid: u128,
+    name: Dn,
+}
+
+impl KnownNames for KnownName {
+    fn name_of(&self, uuid: u128) -> Option<&Dn> {
+        if uuid == self.uuid {
+            Some(&self.name)
+        } else {
+            None
+        }
+    }
+}
+
+/// What the message of these bytes says where a name of this text is known of the identity.
+fn said_beside(alloc: Global, bytes: &[u8], name: &str) -> Result<String, Fail> {
+    let known = KnownName {
+        uuid: UUID,
+        name: Dn::parse(alloc, name.as_bytes())?,
+    };
+    let message = message_of(alloc, bytes)?;
+    let outcome = decode_beside(alloc, &message, true, &known);
+    discard(message);
+    let text = outcome_shown(alloc, &outcome);
+    discard(outcome);
+    discard(known);
+    Ok(text?)
+}
+
+#[test]
+fn a_name_that_is_known_changes_nothing(rt: HostRuntime) -> Result<(), Fail> {
+    for name in ["dc=x", "dc=y", "ou=a,dc=x"] {
+        for (bytes, wanted) in &ENTRIES {
+            let text = said_beside(rt.alloc(), bytes, name)?;
+            assert_same(&rt, name, &text.as_str(), wanted);
+        }
+    }
+    Ok(())
 }
 
 #[test]

@@ -4,6 +4,7 @@ pub mod Joined
 pub mod Joining
 pub mod Lines
 pub mod Lists
+pub mod Names
 pub mod Reading
 pub mod Sizes
 pub mod Syntax

@@ -1,8 +1,9 @@
 -- The keys of values: two values of a type match where their keys are equal (RFC
 -- 4512, section 2.5.1).
-use Rattle.std.specs.Prelude.{ℕ, Bool, List, Option, None, Some, is_some, if◌then◌else◌, nat_lt}
+use Rattle.std.specs.Prelude.{ℕ, Bool, false, List, Option, None, Some, is_some, if◌then◌else◌, bytes_eq, nat_lt}
 use Rattle.std.specs.Str.{str_to_ascii_lowercase}
 use Rattle.std.specs.List.{list_all, filter_map}
+use Rattle.std.specs.Option.{option_map_or}
 use Rattle.text_keys.specs.Boolean.{boolean_key}
 use Rattle.text_keys.specs.Integer.{integer_key}
 use Rattle.text_keys.specs.Text.{ignore_case_key, exact_key}
@@ -35,3 +36,7 @@ key_of kind value = key_by (type_rule kind) value
 -- the keys of those values that have one
 abbrev pub keys_of : ℕ → List (List ℕ) → List (List ℕ)
 keys_of kind values = filter_map (key_of kind) values
+
+-- the value has the key
+abbrev pub has_key : ℕ → List ℕ → List ℕ → Bool
+has_key kind key value = option_map_or (λ own. bytes_eq key own) (key_of kind value) false

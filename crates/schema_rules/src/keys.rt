@@ -1,13 +1,13 @@
 //! Keys of values, by the rules of their types.
 ghost use Rattle.std.specs.Prelude.{◌≡◌, ◌≢◌, false, true, None, Some, is_some, IfOk, IfErr, IsTrue};
-ghost use Rattle.std.specs.List.{list_all};
+ghost use Rattle.std.specs.List.{list_all, list_any};
 ghost use Rattle.text_keys.specs.Fault.{IsFaultOf};
 ghost use Rattle.schema_rules.specs.Attributes.{is_of_syntax};
 ghost use Rattle.schema_rules.specs.Keys as spec;
 ghost use Rattle.schema_rules.specs.Schema.{is_operational, is_operational_rule};
 
 use crate::classes::ObjectClass;
-use crate::types::{AttributeType, Rule};
+use crate::types::{AttributeType, Rule, is_same_name};
 use ldap_ber::{NoMemory, Octets};
 use std::alloc::{AllocError, Global};
 use std::str;
@@ -175,5 +175,60 @@ pub fn known_key(
         Ok(key) => Ok(Some(Octets::from(key))),
         Err(KeyFault::NotUtf8 | KeyFault::NotOfSyntax) => Ok(None),
         Err(KeyFault::NoMemory) => Err(AllocError),
+    }
+}
+
+/// Whether the value has the key. Its own is not made where it is seen to be the value, or to be
+/// another. It is `NoMemory` where memory runs out.
+pub fn has_key(
+    alloc: Global,
+    kind: AttributeType,
+    key: &[u8],
+    value: &[u8],
+) -> Result<bool, NoMemory>
+    ensures { IfOk result (λ has. has ≡ spec.has_key kind key.now value.now) }
+{
+    if shows_own_key(kind, value) {
+        return Ok(key == value);
+    }
+    if is_other_class(kind, key, value) {
+        return Ok(false);
+    }
+    match known_key(alloc, kind, value)? {
+        None => Ok(false),
+        Some(own) => Ok(key == own.as_slice()),
+    }
+}
+
+/// Whether some value has the key. It is `NoMemory` where memory runs out.
+pub fn any_has_key(
+    alloc: Global,
+    kind: AttributeType,
+    key: &[u8],
+    values: &[Octets],
+) -> Result<bool, NoMemory>
+    ensures { IfOk result (λ found. found ≡ list_any (spec.has_key kind key.now) values.now) }
+{
+    for value in values {
+        if has_key(alloc, kind, key, value.as_slice())? {
+            return Ok(true);
+        }
+    }
+    Ok(false)
+}
+
+/// Whether values of the type are names of classes, and the value is not the name that is the key.
+fn is_other_class(kind: AttributeType, key: &[u8], value: &[u8]) -> bool
+    ensures { IsTrue result → spec.has_key kind key.now value.now ≡ false }
+{
+    match kind.rule() {
+        Rule::Class => !is_same_name(key, value),
+        Rule::Folded => false,
+        Rule::FoldedAscii => false,
+        Rule::ExactAscii => false,
+        Rule::Whole => false,
+        Rule::Flag => false,
+        Rule::Time => false,
+        Rule::Operational => false,
     }
 }

@@ -14,6 +14,6 @@ mod weighed;
 pub use attributes::{Attribute, Attrs, add_values, has_duplicates, has_equal_values, has_kind};
 pub use entry_check::check_entry;
 pub use fault::SchemaFault;
-pub use keys::{are_of_syntax, key_of, keys_of, known_key};
+pub use keys::{any_has_key, are_of_syntax, has_key, key_of, keys_of, known_key};
 pub use raw::{Change, EditList, How, RawAttribute, RawEdit, RawList};
 pub use types::{AttributeType, Rule};

@@ -169,9 +169,17 @@ fn place_of(rows: &[TypeRow], name: &[u8]) -> Option<usize>
     rows.iter().position(|row| is_same_name(row.name, name))
 }
 
-/// Whether the names differ in the case of ASCII letters alone.
+/// Whether the names differ in the case of ASCII letters alone. Most that do not are of another
+/// length, and most that do are written as they are listed.
+#[tactic(auto, using(crate::proofs::Names::same_octets, crate::proofs::Names::other_lengths))]
 pub(crate) fn is_same_name(one: &[u8], other: &[u8]) -> bool
     ensures { result ≡ str_eq_ignore_ascii_case one.now other.now }
 {
+    if one.len() != other.len() {
+        return false;
+    }
+    if one == other {
+        return true;
+    }
     one.eq_ignore_ascii_case(other)
 }

@@ -61,7 +61,7 @@ tree_send : IsSend Tree.the_row
 tree_send = search (map_send, entries.the_send, entries.the_sync, Vec-send, Vec-sync, sendable) depth 20
 
 previous_send : IsSend Previous.the_row
-previous_send = search (tree_send, changes.the_send, sendable) depth 20
+previous_send = search (tree_send, map_send, changes.the_send, crosses, sendable) depth 20 fits 5000
 
 previous_kept_send : IsSend (Option.the_field Previous.the_row).row
 previous_kept_send = option.the_field_send Previous.the_row previous_send

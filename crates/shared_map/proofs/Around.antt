@@ -8,12 +8,12 @@ use Rattle.std.specs.BTreeMap.Comparable.{le_lt_trans}
 use Rattle.std.specs.Cmp.{IsTotalOrder}
 use Rattle.std.specs.List.{AllByRecursion, filter}
 use Rattle.std.specs.List.Sorted.{IsStrictlySortedBy}
-use Rattle.std.specs.Map.{keys_of, lookup, lookup_entry, remove_entry}
+use Rattle.std.specs.Map.{keys_of, lookup_entry, remove_entry}
 use Rattle.std.specs.Option.{option_or}
 use Rattle.std.specs.Ordering.{match_ordering}
 use Rattle.shared_map.specs.Queries.{IsQuery}
 use Rattle.shared_map.proofs.Keys.{each_key, below_pair, above_pair}
-use Rattle.shared_map.proofs.Parts.{NoKey, lookup-before, lookup-after, lookup_entry-append, lookup_entry-after, remove_entry-before, remove_entry-after, filter-none, filter-each, filter-append, insert_entry-before, insert_entry-after}
+use Rattle.shared_map.proofs.Parts.{NoKey, lookup_entry-before, lookup_entry-append, lookup_entry-after, remove_entry-before, remove_entry-after, filter-none, filter-each, filter-append, insert_entry-before, insert_entry-after}
 
 -- a key is a query for itself
 pub IsQuery-key : {K : Type 0} {cmp : K → K → Ordering} → IsTotalOrder cmp → (key : K)
@@ -59,17 +59,19 @@ module _ {K X : Type 0} {cmp : K → K → Ordering} {compare : K → Ordering}
   none_after test fails le = each_key (λ key e. ap test e ∙ fails) (keys_of r) (all_after le)
 
   -- a look-up goes to the side of the pair on which the key is
-  pub lookup-around : (o : Ordering) → compare x.0 ≡ o
-      → lookup (is_at compare) (l ++ x ∷ r)
-      ≡ match_ordering o (lookup (is_at compare) l) (Some x.1) (lookup (is_at compare) r)
-  lookup-around Less e =
-      lookup-before (is_at compare) l (x ∷ r) (ap is_eq e, none_after is_eq refl (ap is_le e))
-  lookup-around Equal e =
-      lookup-after (is_at compare) l (x ∷ r) (none_before is_eq refl (ap is_lt e))
-      ∙ ap (λ b. cond b (Some x.1) (lookup (is_at compare) r)) (ap is_eq e)
-  lookup-around Greater e =
-      lookup-after (is_at compare) l (x ∷ r) (none_before is_eq refl (ap is_lt e))
-      ∙ ap (λ b. cond b (Some x.1) (lookup (is_at compare) r)) (ap is_eq e)
+  pub lookup_entry-around : (o : Ordering) → compare x.0 ≡ o
+      → lookup_entry (is_at compare) (l ++ x ∷ r)
+      ≡ match_ordering o (lookup_entry (is_at compare) l) (Some x)
+      (lookup_entry (is_at compare) r)
+  lookup_entry-around Less e =
+      lookup_entry-before (is_at compare) l (x ∷ r)
+      (ap is_eq e, none_after is_eq refl (ap is_le e))
+  lookup_entry-around Equal e =
+      lookup_entry-after (is_at compare) l (x ∷ r) (none_before is_eq refl (ap is_lt e))
+      ∙ ap (λ b. cond b (Some x) (lookup_entry (is_at compare) r)) (ap is_eq e)
+  lookup_entry-around Greater e =
+      lookup_entry-after (is_at compare) l (x ∷ r) (none_before is_eq refl (ap is_lt e))
+      ∙ ap (λ b. cond b (Some x) (lookup_entry (is_at compare) r)) (ap is_eq e)
 
   -- so does a removal
   pub remove_entry-around : (o : Ordering) → compare x.0 ≡ o

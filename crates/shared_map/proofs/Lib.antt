@@ -1,8 +1,9 @@
-pub mod Alike
 pub mod Around
+pub mod Beginnings
 pub mod Changes
 pub mod Counts
 pub mod Keys
+pub mod Numbers
 pub mod Opened
 pub mod Parts
 pub mod Sent

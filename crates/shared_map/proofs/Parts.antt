@@ -1,11 +1,11 @@
 -- What becomes of two lists of pairs, one after the other, where a test fails at one of them.
 use Rattle.std.proofs.Common.{◌≡◌, refl, sym, ap, ◌∙◌, append_assoc, Bool, true, false, cond, List, [], ◌∷◌, ◌++◌}
 use Rattle.std.proofs.Common.{Ordering, Less, Equal, Greater}
-use Rattle.std.specs.Prelude.{None, Some}
+use Rattle.std.specs.Prelude.{Option, None, Some}
 use Rattle.std.specs.BTreeMap.{insert_entry}
 use Rattle.std.specs.List.{AllByRecursion, filter}
 use Rattle.std.specs.Map.{keys_of, lookup, lookup_entry, remove_entry}
-use Rattle.std.specs.Option.{option_or}
+use Rattle.std.specs.Option.{option_map, option_or}
 use Rattle.std.specs.Ordering.{match_ordering}
 
 -- no key of the pairs passes the test
@@ -13,22 +13,31 @@ abbrev pub NoKey : {K X : Type 0} → (K → Bool) → List (K × X) → Type 0
 NoKey test es = AllByRecursion (λ key. test key ≡ false) (keys_of es)
 
 module _ {K X : Type 0} (test : K → Bool) where
+  -- the value that is looked up is that of the pair
+  pub value_found : {found : Option (K × X)} (es : List (K × X)) → found ≡ lookup_entry test es
+      → option_map (λ (e : K × X). e.1) found ≡ lookup test es
+  value_found [] is = ap (option_map (λ (e : K × X). e.1)) is
+  value_found {found = found} (e ∷ es) is =
+      ap (option_map (λ (e : K × X). e.1)) is ∙ by (test e.0) (value_found {found = lookup_entry test es} es refl)
+    where
+      by : (b : Bool) → option_map (λ (e : K × X). e.1) (lookup_entry test es) ≡ lookup test es
+          → option_map (λ (e : K × X). e.1) (cond b (Some e) (lookup_entry test es))
+          ≡ cond b (Some e.1) (lookup test es)
+      by true rest = refl
+      by false rest = rest
+
   -- a key that is not there is not found
-  pub lookup-none : (es : List (K × X)) → NoKey test es → lookup test es ≡ None
-  lookup-none [] fails = refl
-  lookup-none (e ∷ es) fails =
-      ap (λ b. cond b (Some e.1) (lookup test es)) fails.0 ∙ lookup-none es fails.1
+  pub lookup_entry-none : (es : List (K × X)) → NoKey test es → lookup_entry test es ≡ None
+  lookup_entry-none [] fails = refl
+  lookup_entry-none (e ∷ es) fails =
+      ap (λ b. cond b (Some e) (lookup_entry test es)) fails.0 ∙ lookup_entry-none es fails.1
 
   -- where it is not in the second list, a look-up is one in the first
-  pub lookup-before : (l r : List (K × X)) → NoKey test r → lookup test (l ++ r) ≡ lookup test l
-  lookup-before [] r fails = lookup-none r fails
-  lookup-before (e ∷ l) r fails = ap (cond (test e.0) (Some e.1)) (lookup-before l r fails)
-
-  -- where it is not in the first list, a look-up is one in the second
-  pub lookup-after : (l r : List (K × X)) → NoKey test l → lookup test (l ++ r) ≡ lookup test r
-  lookup-after [] r fails = refl
-  lookup-after (e ∷ l) r fails =
-      ap (λ b. cond b (Some e.1) (lookup test (l ++ r))) fails.0 ∙ lookup-after l r fails.1
+  pub lookup_entry-before : (l r : List (K × X)) → NoKey test r
+      → lookup_entry test (l ++ r) ≡ lookup_entry test l
+  lookup_entry-before [] r fails = lookup_entry-none r fails
+  lookup_entry-before (e ∷ l) r fails =
+      ap (cond (test e.0) (Some e)) (lookup_entry-before l r fails)
 
   -- the first that passes is in the first list, if one is
   pub lookup_entry-append : (l r : List (K × X))

@@ -27,25 +27,26 @@ pub(crate) fn put_into<K: Ord + Drop, V: Drop>(
     }
     match nodes {
         Nodes::Nothing => put_anew(alloc, Nodes::Nothing, pair),
-        Nodes::Fork(_, shared) => put_into_node(alloc, levels - 1, shared, pair),
+        Nodes::Fork(height, shared) => put_into_node(alloc, levels - 1, height, shared, pair),
     }
 }
 
-/// The same for a node and those below it.
+/// The same for a node of this height and those below it.
 #[cycle(putting)]
 fn put_into_node<K: Ord + Drop, V: Drop>(
     alloc: Global,
     levels: u8,
+    height: u8,
     mut shared: Arc<Node<K, V>>,
     pair: MapPair<K, V>,
 ) -> (Nodes<K, V>, Result<bool, AllocError>)
     ensures { InsertsPair K.cmp pair (pairs_of shared.value) (pairs result.0) result.1 }
 {
     let Some(node) = Arc::get_mut(&mut shared) else {
-        return put_anew(alloc, measured(shared), pair);
+        return put_anew(alloc, Nodes::Fork(height, shared), pair);
     };
     let answer = put_below(alloc, levels, node, pair);
-    (in_balance(alloc, shared), answer)
+    (rebalanced(alloc, height, shared, &answer), answer)
 }
 
 /// Puts the pair into a node that no other map shares, or into those below it.
@@ -93,8 +94,33 @@ fn put_anew<K: Ord + Drop, V: Drop>(
     }
 }
 
+/// The node with those below it, among which a pair was put or from which one was taken, unless the
+/// answer says that none came or went. Then its height is the one that it had, and it is in balance
+/// as before.
+pub(crate) fn rebalanced<K: Drop, V: Drop>(
+    alloc: Global,
+    height: u8,
+    shared: Arc<Node<K, V>>,
+    answer: &Result<bool, AllocError>,
+) -> Nodes<K, V>
+    ensures { pairs result ≡ pairs_of shared.value }
+{
+    if has_changed(answer) {
+        return in_balance(alloc, shared);
+    }
+    Nodes::Fork(height, shared)
+}
+
+/// Whether a pair came or went, so that a way down may be longer or shorter than before.
+fn has_changed(answer: &Result<bool, AllocError>) -> bool {
+    match answer {
+        Ok(has_changed) => *has_changed,
+        Err(_) => false,
+    }
+}
+
 /// The node with those below it, in balance where there is memory for that.
-pub(crate) fn in_balance<K: Drop, V: Drop>(alloc: Global, shared: Arc<Node<K, V>>) -> Nodes<K, V>
+fn in_balance<K: Drop, V: Drop>(alloc: Global, shared: Arc<Node<K, V>>) -> Nodes<K, V>
     ensures { pairs result ≡ pairs_of shared.value }
 {
     if shared.is_level() {

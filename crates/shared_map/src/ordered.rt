@@ -1,4 +1,4 @@
-ghost use Rattle.std.specs.Prelude.{◌≡◌, ◌-◌, ◌<◌, ◌^◌, ◌↔◌, [], IsTrue, length, map, slice_get, option_copied, IfOk, OnErr, OnOk};
+ghost use Rattle.std.specs.Prelude.{◌≡◌, ◌-◌, ◌<◌, ◌^◌, ◌↔◌, [], IsTrue, length, map, slice_get, option_copied, IfOk, IfSome, OnErr, OnOk};
 ghost use Rattle.std.specs.Option.{option_map};
 ghost use Rattle.std.specs.Ordering.{is_le, is_lt};
 ghost use Rattle.std.specs.List.{filter};
@@ -6,13 +6,14 @@ ghost use Rattle.std.specs.List.Sorted.{IsStrictlySortedBy};
 ghost use Rattle.std.specs.Map.{keys_of, values_of, lookup, lookup_entry, remove_entry};
 ghost use Rattle.std.specs.BTreeMap.{is_at, insert_entry};
 ghost use Rattle.shared_map.specs.Nodes.{count_with, pair_of};
+ghost use Rattle.shared_map.specs.Queries.{begins};
 
 use crate::in_place::put_into;
 use crate::nodes::{MapPair, Nodes};
 use crate::queries::Query;
-use crate::seeking::{first_pair, last_pair, pair_after, pair_from, value_at};
+use crate::seeking::{first_pair, last_pair, pair_after, pair_at, pair_from};
 use crate::taking_out::take_from;
-use crate::walking::{push_values, push_values_after};
+use crate::walking::{push_values, push_values_after, push_values_within};
 use std::alloc::{AllocError, Global};
 use std::marker::Model;
 use std::mem;
@@ -94,7 +95,19 @@ impl<K: Ord, V> SharedMap<K, V> {
     pub fn get<Q: Query<K>>(&self, key: Q) -> Option<&V>
         ensures { option_copied result ≡ lookup (is_at (Q.compare key)) self.now }
     {
-        value_at(&self.root, key)
+        match self.pair_at(key) {
+            Some(pair) => Some(pair.value()),
+            None => None,
+        }
+    }
+
+    /// The pair at the key, as another map can have it too.
+    pub fn pair_at<Q: Query<K>>(&self, key: Q) -> Option<&MapPair<K, V>>
+        ensures pair { option_map (λ pair. pair_of pair.now) result
+            ≡ lookup_entry (is_at (Q.compare key)) self.now }
+        ensures key { IfSome result (λ pair. IsTrue (is_at (Q.compare key) pair.now.key.value)) }
+    {
+        pair_at(&self.root, key)
     }
 
     /// The pair of the lowest key.
@@ -118,14 +131,6 @@ impl<K: Ord, V> SharedMap<K, V> {
             ≡ lookup_entry (λ other. is_le (Q.compare key other)) self.now }
     {
         lent(pair_from(&self.root, key))
-    }
-
-    /// The same pair, as another map can have it too.
-    pub fn pair_from<Q: Query<K>>(&self, key: Q) -> Option<&MapPair<K, V>>
-        ensures { option_map (λ pair. pair_of pair.now) result
-            ≡ lookup_entry (λ other. is_le (Q.compare key other)) self.now }
-    {
-        pair_from(&self.root, key)
     }
 
     /// The first pair whose key is above what the query stands for.
@@ -153,6 +158,19 @@ impl<K: Ord, V> SharedMap<K, V> {
     {
         let mut list = Vec::new(self.alloc);
         push_values_after(&mut list, &self.root, key)?;
+        Ok(list)
+    }
+}
+
+impl<V> SharedMap<Vec<u8>, V> {
+    /// The values of the keys that begin with these octets, in the order of their keys. Others are
+    /// met only on the ways down to these. It is `AllocError` where memory runs out.
+    pub fn values_within(&self, octets: &[u8]) -> Result<Vec<&V>, AllocError>
+        ensures { IfOk result (λ list. map (λ value. value.now) list.items
+            ≡ values_of (filter (λ pair. begins octets.now pair.0) self.now)) }
+    {
+        let mut list = Vec::new(self.alloc);
+        push_values_within(&mut list, &self.root, octets)?;
         Ok(list)
     }
 }

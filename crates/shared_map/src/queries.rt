@@ -1,11 +1,10 @@
 //! What a map is asked by.
-ghost use Rattle.std.specs.Prelude.{◌≡◌, ◌≤◌, length, take, drop, IsTrue, IfSome};
-ghost use Rattle.std.specs.Int.{to_le_bytes, w64};
+ghost use Rattle.std.specs.Prelude.{◌≡◌, ◌≤◌, length, drop, IfSome};
 ghost use Rattle.std.specs.BTreeMap.Comparable.{le_lt_trans};
 ghost use Rattle.std.specs.Ordering.{nat_cmp};
 ghost use Rattle.std.specs.Cmp.Lexicographic.{slice_cmp, nat_list_cmp_total};
 ghost use Rattle.std.specs.declared.cmp.Ordering.{Ordering};
-ghost use Rattle.shared_map.specs.Queries.{BeginAlike, IsQuery};
+ghost use Rattle.shared_map.specs.Queries.{BeginsWith, IsQuery};
 
 use std::cmp::Ordering;
 
@@ -47,13 +46,16 @@ impl Query<Vec<u8>> for &[u8] {
 }
 
 /// How one text of octets compares to another. Path keys begin alike, so eight octets of both are
-/// compared at once as long as they are the same.
-fn compare_bytes<'a>(left: &'a [u8], right: &'a [u8]) -> Ordering
+/// compared at once, as numbers with the first octet the highest.
+pub(crate) fn compare_bytes<'a>(left: &'a [u8], right: &'a [u8]) -> Ordering
     ensures { result ≡ slice_cmp nat_cmp left.now right.now }
 {
     let mut one = left;
     let mut other = right;
-    while begin_alike(one, other) {
+    while let Some((number, other_number)) = first_numbers(one, other) {
+        if number != other_number {
+            return number.cmp(&other_number);
+        }
         let rest = after_eight(one);
         let other_rest = after_eight(other);
         one = rest;
@@ -62,34 +64,22 @@ fn compare_bytes<'a>(left: &'a [u8], right: &'a [u8]) -> Ordering
     one.cmp(&other)
 }
 
-/// Whether both begin with the same eight octets.
-fn begin_alike(one: &[u8], other: &[u8]) -> bool
-    ensures { IsTrue result → BeginAlike 8 one.now other.now }
+/// The first eight octets of both as numbers, where both have eight.
+fn first_numbers(one: &[u8], other: &[u8]) -> Option<(u64, u64)>
+    ensures { IfSome result (λ numbers.
+        BeginsWith one.now numbers.0 × BeginsWith other.now numbers.1) }
 {
-    match first_eight(one) {
-        Some(eight) => begins_with(other, eight),
-        None => false,
-    }
-}
-
-/// Whether the first eight octets are those of this number.
-fn begins_with(octets: &[u8], number: u64) -> bool
-    ensures { IsTrue result
-        → (8 ≤ length octets.now) × (to_le_bytes w64 number ≡ take 8 octets.now) }
-{
-    match first_eight(octets) {
-        Some(first) => first == number,
-        None => false,
-    }
+    let number = first_eight(one)?;
+    let other_number = first_eight(other)?;
+    Some((number, other_number))
 }
 
 /// The first eight octets as one number, where there are eight.
 fn first_eight(octets: &[u8]) -> Option<u64>
-    ensures { IfSome result (λ number.
-        (8 ≤ length octets.now) × (to_le_bytes w64 number ≡ take 8 octets.now)) }
+    ensures { IfSome result (λ number. BeginsWith octets.now number) }
 {
     match octets.first_chunk::<8>() {
-        Some(eight) => Some(number_of(*eight)),
+        Some(eight) => Some(u64::from_be_bytes(*eight)),
         None => None,
     }
 }
@@ -100,11 +90,4 @@ fn after_eight(octets: &[u8]) -> &[u8]
     ensures { result.now ≡ drop 8 octets.now }
 {
     &octets[8..]
-}
-
-/// Eight octets as one number.
-fn number_of(eight: [u8; 8]) -> u64
-    ensures { to_le_bytes w64 result ≡ eight }
-{
-    u64::from_le_bytes(eight)
 }

@@ -1,9 +1,9 @@
 //! How a pair is found. Nothing here takes memory.
-ghost use Rattle.std.specs.Prelude.{◌≡◌, ◌-◌, length, slice_get, option_copied};
+ghost use Rattle.std.specs.Prelude.{◌≡◌, ◌-◌, length, slice_get, IfSome, IsTrue};
 ghost use Rattle.std.specs.Option.{option_map};
 ghost use Rattle.std.specs.Ordering.{is_le, is_lt};
 ghost use Rattle.std.specs.List.Sorted.{IsStrictlySortedBy};
-ghost use Rattle.std.specs.Map.{keys_of, lookup, lookup_entry};
+ghost use Rattle.std.specs.Map.{keys_of, lookup_entry};
 ghost use Rattle.std.specs.BTreeMap.{is_at};
 ghost use Rattle.shared_map.specs.Nodes.{pair_of, pairs};
 
@@ -11,19 +11,24 @@ use crate::nodes::{MapPair, Nodes};
 use crate::queries::Query;
 use std::cmp::Ordering;
 
-/// The value at the key.
-pub(crate) fn value_at<'a, K: Ord, V, Q: Query<K>>(nodes: &'a Nodes<K, V>, key: Q) -> Option<&'a V>
-    ensures { IsStrictlySortedBy K.cmp (keys_of (pairs nodes.now))
-        → option_copied result ≡ lookup (is_at (Q.compare key)) (pairs nodes.now) }
+/// The pair at the key.
+pub(crate) fn pair_at<'a, K: Ord, V, Q: Query<K>>(
+    nodes: &'a Nodes<K, V>,
+    key: Q,
+) -> Option<&'a MapPair<K, V>>
+    ensures pair { IsStrictlySortedBy K.cmp (keys_of (pairs nodes.now))
+        → option_map (λ pair. pair_of pair.now) result
+        ≡ lookup_entry (is_at (Q.compare key)) (pairs nodes.now) }
+    ensures key { IfSome result (λ pair. IsTrue (is_at (Q.compare key) pair.now.key.value)) }
 {
     match nodes {
         Nodes::Nothing => None,
         Nodes::Fork(_, shared) => {
             let node = &**shared;
             match key.compare(&node.pair.key) {
-                Ordering::Less => value_at(&node.lower, key),
-                Ordering::Equal => Some(&node.pair.value),
-                Ordering::Greater => value_at(&node.higher, key),
+                Ordering::Less => pair_at(&node.lower, key),
+                Ordering::Equal => Some(&node.pair),
+                Ordering::Greater => pair_at(&node.higher, key),
             }
         }
     }

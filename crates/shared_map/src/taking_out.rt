@@ -5,7 +5,7 @@ ghost use Rattle.std.specs.List.Sorted.{IsStrictlySortedBy};
 ghost use Rattle.std.specs.Map.{keys_of, remove_entry};
 ghost use Rattle.shared_map.specs.Nodes.{count_with, pairs, pairs_beside, pairs_of, pairs_or};
 
-use crate::in_place::in_balance;
+use crate::in_place::rebalanced;
 use crate::nodes::{Node, Nodes, measured};
 use crate::queries::Query;
 use crate::taking::{joined, without};
@@ -35,15 +35,16 @@ pub(crate) fn take_from<K: Ord + Drop, V: Drop, Q: Query<K>>(
     }
     match nodes {
         Nodes::Nothing => (Nodes::Nothing, Ok(false)),
-        Nodes::Fork(_, shared) => take_from_node(alloc, levels - 1, shared, key),
+        Nodes::Fork(height, shared) => take_from_node(alloc, levels - 1, height, shared, key),
     }
 }
 
-/// The same for a node and those below it.
+/// The same for a node of this height and those below it.
 #[cycle(taking)]
 fn take_from_node<K: Ord + Drop, V: Drop, Q: Query<K>>(
     alloc: Global,
     levels: u8,
+    height: u8,
     mut shared: Arc<Node<K, V>>,
     key: Q,
 ) -> (Nodes<K, V>, Result<bool, AllocError>)
@@ -54,10 +55,10 @@ fn take_from_node<K: Ord + Drop, V: Drop, Q: Query<K>>(
     ensures err { OnErr result.1 (pairs result.0 ≡ pairs_of shared.value) }
 {
     let Some(node) = Arc::get_mut(&mut shared) else {
-        return take_anew(alloc, measured(shared), key);
+        return take_anew(alloc, Nodes::Fork(height, shared), key);
     };
     match take_below(alloc, levels, node, key) {
-        Some(answer) => (in_balance(alloc, shared), answer),
+        Some(answer) => (rebalanced(alloc, height, shared, &answer), answer),
         None => without_own(alloc, shared),
     }
 }

@@ -43,12 +43,23 @@ pub enum Taken {
 }
 
 /// A copy of what a specification selects from a directory.
-#[derive(Drop)]
 pub struct Consumer {
     spec: Spec,
     reload_hint: bool,
     held: HeldContent,
     session: Option<SyncSession>,
+}
+
+/// A call of its own, so that what drops a consumer is one step.
+impl Drop for Consumer {
+    fn drop(self) {
+        let Consumer {
+            spec: _spec,
+            reload_hint: _,
+            held: _held,
+            session: _session,
+        } = self;
+    }
 }
 
 /// Contracts see the filter as a tree.

@@ -13,20 +13,32 @@ use crate::fault::Refusal;
 use crate::names::{IdentitiesByName, names_after};
 use crate::stage::{MOST_ENTRIES, MOST_WEIGHT, Stage};
 use crate::weighed::{WeighedEntries, entries_with};
+use dn_names::Dn;
 use entry_tree::{Entry, check_content};
 use ldap_ber::NoMemory;
 use shared_map::SharedMap;
 use std::alloc::Global;
 use std::marker::Model;
+use sync_wire::KnownNames;
 
 /// Entries by their identities, in ascending order, as a directory may have them, with the identity
 /// of each name. A copy shares all of them, and so does a map with a stage in effect, other than
 /// what the stage changes.
-#[derive(Drop)]
 pub struct EntryMap {
     alloc: Global,
     entries: WeighedEntries,
     names: IdentitiesByName,
+}
+
+/// A call of its own, so that what drops a map is one step.
+impl Drop for EntryMap {
+    fn drop(self) {
+        let EntryMap {
+            alloc: _,
+            entries: _entries,
+            names: _names,
+        } = self;
+    }
 }
 
 impl Model for EntryMap {
@@ -188,6 +200,16 @@ impl EntryMap {
             entries,
             names,
         })
+    }
+}
+
+impl KnownNames for EntryMap {
+    /// The name of the entry of that identity.
+    fn name_of(&self, uuid: u128) -> Option<&Dn> {
+        match self.get(uuid) {
+            Some(entry) => Some(&entry.dn),
+            None => None,
+        }
     }
 }
 

@@ -16,10 +16,19 @@ use ldap_ber::{NoMemory, Octets};
 use std::alloc::Global;
 
 /// The entries, and the cookie of the content that they are.
-#[derive(Drop)]
 pub(crate) struct HeldContent {
     pub(crate) entries: EntryMap,
     pub(crate) cookie: Option<Octets>,
+}
+
+/// A call of its own, so that what drops a copy is one step.
+impl Drop for HeldContent {
+    fn drop(self) {
+        let HeldContent {
+            entries: _entries,
+            cookie: _cookie,
+        } = self;
+    }
 }
 
 impl HeldContent {

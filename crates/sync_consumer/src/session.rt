@@ -16,10 +16,9 @@ use ldap_ber::{NoMemory, Octets};
 use ldap_messages::Message;
 use std::alloc::Global;
 use sync_messages::Mode;
-use sync_wire::{SyncEvent, decode};
+use sync_wire::{SyncEvent, decode_beside};
 
 /// A search that runs: at first its refresh, and where it persists what comes after that.
-#[derive(Drop)]
 pub(crate) struct SyncSession {
     /// The ID of its messages.
     pub(crate) id: u32,
@@ -31,6 +30,20 @@ pub(crate) struct SyncSession {
     /// What was named as present.
     pub(crate) named: Named,
     pub(crate) stage: Stage,
+}
+
+/// A call of its own, so that what drops a search is one step.
+impl Drop for SyncSession {
+    fn drop(self) {
+        let SyncSession {
+            id: _,
+            mode: _,
+            persisting: _,
+            ended: _,
+            named: _named,
+            stage: _stage,
+        } = self;
+    }
 }
 
 /// What a message leads to.
@@ -88,7 +101,8 @@ impl SyncSession {
         if message.id != self.id {
             return Err(Refusal::OutOfPlace);
         }
-        let decoded = decode(held.entries.allocator(), message, self.persisting)?;
+        let entries = &held.entries;
+        let decoded = decode_beside(entries.allocator(), message, self.persisting, entries)?;
         self.take_decoded(held, decoded)
     }
 

@@ -60,11 +60,21 @@ struct Load {
 
 /// What is staged, in ascending order of identity, within the limits of a directory. The latest of
 /// an identity counts. A copy shares all of it.
-#[derive(Drop)]
 pub(crate) struct Stage {
     alloc: Global,
     changes: SharedMap<u128, StagedChange>,
     load: Load,
+}
+
+/// A call of its own, so that what drops a stage is one step.
+impl Drop for Stage {
+    fn drop(self) {
+        let Stage {
+            alloc: _,
+            changes: _changes,
+            load: _,
+        } = self;
+    }
 }
 
 impl Model for Stage {

@@ -3,13 +3,13 @@ use Rattle.std.proofs.Common.{◌≡◌, ℕ, Bool, true, false, cond, List, Opt
 use Rattle.std.specs.Prelude.{find, ◌==◌}
 use Rattle.std.specs.List.{list_any}
 use Rattle.ldap_constants.specs.declared.result_codes.TheConstants.{COMPARE_FALSE, COMPARE_TRUE, INVALID_ATTRIBUTE_SYNTAX, NO_SUCH_ATTRIBUTE, NO_SUCH_OBJECT, UNDEFINED_ATTRIBUTE_TYPE}
-use Rattle.schema_rules.specs.Keys.{key_of}
+use Rattle.schema_rules.specs.Keys.{has_key, key_of}
 use Rattle.schema_rules.specs.Schema.{type_named, is_operational}
 use Rattle.schema_rules.specs.declared.attributes.Attribute.{Attribute}
 use Rattle.dn_names.specs.Names.{TypeAndValue}
 use Rattle.entry_tree.specs.State.{entry_named}
 use Rattle.entry_tree.specs.declared.entry.Entry.{Entry}
-use Rattle.sync_provider.specs.Comparing.{matches, attribute_code, key_code, value_code, type_code, found_code, compare_code}
+use Rattle.sync_provider.specs.Comparing.{attribute_code, key_code, value_code, type_code, found_code, compare_code}
 
 abbrev Name : Type 0
 Name = List (List TypeAndValue)
@@ -60,16 +60,16 @@ pub no_attribute : (attributes : List Attribute) (kind : ℕ) (value key : List 
 no_attribute attributes kind value key is none = at_key attributes kind value key None is none
 
 by_match : (attributes : List Attribute) (kind : ℕ) (value key : List ℕ) (a : Attribute) (hit : Bool) → key_of kind value ≡ Some key → find (λ x. x.kind == kind) attributes ≡ Some a
-    → list_any (matches kind key) a.values ≡ hit → value_code attributes kind value ≡ cond hit COMPARE_TRUE COMPARE_FALSE
+    → list_any (has_key kind key) a.values ≡ hit → value_code attributes kind value ≡ cond hit COMPARE_TRUE COMPARE_FALSE
 by_match attributes kind value key a hit is there holds =
     at_key attributes kind value key (Some a) is there ∙ ap (λ b. cond b COMPARE_TRUE COMPARE_FALSE) holds
 
 -- the entry has one that matches
 pub value_matches : (attributes : List Attribute) (kind : ℕ) (value key : List ℕ) (a : Attribute) → key_of kind value ≡ Some key → find (λ x. x.kind == kind) attributes ≡ Some a
-    → list_any (matches kind key) a.values ≡ true → value_code attributes kind value ≡ COMPARE_TRUE
+    → list_any (has_key kind key) a.values ≡ true → value_code attributes kind value ≡ COMPARE_TRUE
 value_matches attributes kind value key a is there holds = by_match attributes kind value key a true is there holds
 
 -- it has none that matches
 pub no_value_matches : (attributes : List Attribute) (kind : ℕ) (value key : List ℕ) (a : Attribute) → key_of kind value ≡ Some key → find (λ x. x.kind == kind) attributes ≡ Some a
-    → list_any (matches kind key) a.values ≡ false → value_code attributes kind value ≡ COMPARE_FALSE
+    → list_any (has_key kind key) a.values ≡ false → value_code attributes kind value ≡ COMPARE_FALSE
 no_value_matches attributes kind value key a is there fails = by_match attributes kind value key a false is there fails

@@ -4,9 +4,10 @@ use Rattle.std.specs.Prelude.{option_map}
 use Rattle.std.specs.BTreeMap.{insert_entry, is_at}
 use Rattle.std.specs.Ordering.{nat_cmp, match_ordering}
 use Rattle.std.proofs.lemmas.Bool.{cases_order}
-use Rattle.std.proofs.lemmas.List.{map-id}
+use Rattle.std.proofs.lemmas.List.{length-set, map-id}
 use Rattle.directory_writes.proofs.Keyed.{kept_at, closed_at, put_on, less_cmp, same_cmp, more_cmp, is_at-same, is_at-other}
-use Rattle.sync_provider.specs.Placing.{Ascends, HasNoPlace, IsSearchNumber, placed_from, put_back, ComesBack, shown, pushed_at}
+use Rattle.sync_provider.specs.Placing.{AreFree, AreFreeFrom, Ascends, HasNoPlace, IsSearchNumber, IsTable, placed_from, put_back, ComesBack, shown, pushed_at, unstaged_at}
+use Rattle.sync_provider.specs.Search.{SearchState}
 use Rattle.sync_provider.specs.Staging.{HeldSearch, searches_of, pushed_staged, each_pushed}
 
 abbrev Order : ℕ → ℕ → Type 0
@@ -189,14 +190,14 @@ emptied_from (Some held ∷ places) first k (suc place) at =
 -- ---- by numbers
 
 -- a number without a place has no search
-pub none_at : {X : Type 0} (places : List (Option X)) (number : ℕ) → length places ≡ 64 → HasNoPlace number → kept_at (placed_from 1 places) number ≡ None
-none_at places number all (inl zero_is) = none_below (placed_from 1 places) 1 number (placed_ascends places 1) (omega arith)
-none_at places number all (inr past) = none_past places 1 number (omega arith)
+pub none_at : {X : Type 0} (places : List (Option X)) (used number : ℕ) → IsTable used places → HasNoPlace number → kept_at (placed_from 1 places) number ≡ None
+none_at places used number table (inl zero_is) = none_below (placed_from 1 places) 1 number (placed_ascends places 1) (omega arith)
+none_at places used number table (inr past) = none_past places 1 number (omega (arith, table.long, past))
 
 -- so nothing is taken out there
-pub nothing_there : {X : Type 0} (places : List (Option X)) (number : ℕ) → length places ≡ 64 → HasNoPlace number → closed_at (placed_from 1 places) number ≡ placed_from 1 places
-nothing_there places number all (inl zero_is) = closed_below (placed_from 1 places) 1 number (placed_ascends places 1) (omega arith)
-nothing_there places number all (inr past) = closed_past places 1 (omega arith)
+pub nothing_there : {X : Type 0} (places : List (Option X)) (used number : ℕ) → IsTable used places → HasNoPlace number → closed_at (placed_from 1 places) number ≡ placed_from 1 places
+nothing_there places used number table (inl zero_is) = closed_below (placed_from 1 places) 1 number (placed_ascends places 1) (omega arith)
+nothing_there places used number table (inr past) = closed_past places 1 (omega (arith, table.long, past))
   where
     closed_past : {X : Type 0} (places : List (Option X)) (first : ℕ) → first + length places ≤ number → closed_at (placed_from first places) number ≡ placed_from first places
     closed_past [] first past = refl
@@ -206,12 +207,12 @@ nothing_there places number all (inr past) = closed_past places 1 (omega arith)
         ap (λ b. cond b rest ((first, held) ∷ closed_at rest number)) (is_at-other number first (λ same. omega arith)) ∙ ap (λ es. (first, held) ∷ es) (closed_past places (suc first) (omega arith))
 
 -- the search of a number stands in its place
-pub found_at : {X : Type 0} (places : List (Option X)) (number place : ℕ) (x : Option X) → length places ≡ 64 → (number ≡ place + 1) × (place < 64) → x ≡ get_or places place x → kept_at (placed_from 1 places) number ≡ x
-found_at places number place x all at is = kept_from places 1 number place x (omega (arith, at.0)) (omega (arith, at.1)) is
+pub found_at : {X : Type 0} (places : List (Option X)) (used number place : ℕ) (x : Option X) → IsTable used places → (number ≡ place + 1) × (place < 64) → x ≡ get_or places place x → kept_at (placed_from 1 places) number ≡ x
+found_at places used number place x table at is = kept_from places 1 number place x (omega (arith, at.0)) (omega (arith, at.1, table.long)) is
 
 -- it is put there
-pub filled : {X : Type 0} (places : List (Option X)) (number : ℕ) (x : X) → length places ≡ 64 → IsSearchNumber number → placed_from 1 (set places (number - 1) (Some x)) ≡ insert_entry nat_cmp (placed_from 1 places) number x
-filled places number x all is = filled_from places 1 number (number - 1) x (omega (arith, is.first)) (omega (arith, is.first, is.last))
+pub filled : {X : Type 0} (places : List (Option X)) (used number : ℕ) (x : X) → IsTable used places → IsSearchNumber number → placed_from 1 (set places (number - 1) (Some x)) ≡ insert_entry nat_cmp (placed_from 1 places) number x
+filled places used number x table is = filled_from places 1 number (number - 1) x (omega (arith, is.first)) (omega (arith, is.first, is.last, table.long))
 
 -- and taken out
 pub emptied : {X : Type 0} (places : List (Option X)) (number place : ℕ) → (number ≡ place + 1) × (place < 64) → placed_from 1 (set places place None) ≡ closed_at (placed_from 1 places) number
@@ -267,6 +268,108 @@ placed_map_from f (Some held ∷ places) first = ap (λ es. (first, f held) ∷ 
 pub placed_map : (f : HeldSearch → HeldSearch) (places : Places) → placed_from 1 (map (option_map f) places) ≡ map (λ kept. (kept.0, f kept.1)) (placed_from 1 places)
 placed_map f places = placed_map_from f places 1
 
+-- ---- places that are free
+
+free_after : {X : Type 0} (places : List (Option X)) (n : ℕ) → AreFree places → AreFree (drop n places)
+free_after places zero free = free
+free_after [] (suc n) free = tt
+free_after (None ∷ places) (suc n) free = free_after places n free
+free_after (Some held ∷ places) (suc n) free = absurd free
+
+-- those after more places are among those after fewer
+pub free_further : {X : Type 0} (places : List (Option X)) (n more : ℕ) → n ≤ more → AreFreeFrom n places → AreFreeFrom more places
+free_further places zero more less free = free_after places more free
+free_further [] (suc n) more less free = free_after [] more free
+free_further (place ∷ places) (suc n) zero less free = absurd (omega arith)
+free_further (place ∷ places) (suc n) (suc more) less free = free_further places n more (omega arith) free
+
+-- what is put before them leaves them free
+pub free_beyond : {X : Type 0} (places : List (Option X)) (n i : ℕ) (x : Option X) → i < n → AreFreeFrom n places → AreFreeFrom n (set places i x)
+free_beyond [] n i x less free = free
+free_beyond (place ∷ places) zero i x less free = absurd (omega arith)
+free_beyond (place ∷ places) (suc n) zero x less free = free
+free_beyond (place ∷ places) (suc n) (suc i) x less free = free_beyond places n i x (omega arith) free
+
+-- a place that gets free leaves them so
+pub free_emptied : {X : Type 0} (places : List (Option X)) (n i : ℕ) → AreFreeFrom n places → AreFreeFrom n (set places i None)
+free_emptied [] n i free = free
+free_emptied (None ∷ places) zero zero free = free
+free_emptied (None ∷ places) zero (suc i) free = free_emptied places zero i free
+free_emptied (Some held ∷ places) zero i free = absurd free
+free_emptied (place ∷ places) (suc n) zero free = free
+free_emptied (place ∷ places) (suc n) (suc i) free = free_emptied places n i free
+
+-- so do places that show what is made of them, where nothing is made of a free one
+free_shown : (make : Option HeldSearch → Option SearchState) → make None ≡ None → (n : ℕ) (one other : Places) → map shown one ≡ map make other → AreFreeFrom n other → AreFreeFrom n one
+free_shown make none n [] other same free = free_after [] n tt
+free_shown make none n (x ∷ one) [] same free = absurd (cc)
+free_shown make none zero (None ∷ one) (None ∷ other) same free = free_shown make none zero one other (ap (drop 1) same) free
+free_shown make none zero (Some held ∷ one) (None ∷ other) same free = absurd (apart (ap (λ ss. get_or ss 0 None) same ∙ none))
+  where
+    apart : Some held.search ≡ None → ⊥
+    apart h = cc
+free_shown make none zero (x ∷ one) (Some held ∷ other) same free = absurd free
+free_shown make none (suc n) (x ∷ one) (y ∷ other) same free = free_shown make none n one other (ap (drop 1) same) free
+
+unstaged_free : (n : ℕ) (places : Places) → AreFreeFrom n places → AreFreeFrom n (map unstaged_at places)
+unstaged_free zero [] free = tt
+unstaged_free zero (None ∷ places) free = unstaged_free zero places free
+unstaged_free zero (Some held ∷ places) free = absurd free
+unstaged_free (suc n) [] free = tt
+unstaged_free (suc n) (place ∷ places) free = unstaged_free n places free
+
+none_free : {X : Type 0} (places : List (Option X)) (first : ℕ) → placed_from first places ≡ [] → AreFree places
+none_free [] first none = tt
+none_free (None ∷ places) first none = none_free places (suc first) none
+none_free (Some held ∷ places) first none = absurd (cc)
+
+-- ---- tables
+
+-- at first each place is free
+pub table_free : {X : Type 0} (places : List (Option X)) → length places ≡ 64 → placed_from 1 places ≡ [] → IsTable 0 places
+table_free places long none = record { long = long; few = omega arith; free = none_free places 1 none }
+
+-- a search is put at a number, up to which places are in use from now on
+pub table_put : {X : Type 0} (places : List (Option X)) (used number next : ℕ) (x : X) → IsTable used places → IsSearchNumber number → used ≤ next → number ≤ next → next ≤ 64
+    → IsTable next (set places (number - 1) (Some x))
+table_put places used number next x table is more at few = record {
+  long = length-set places (number - 1) (Some x) ∙ table.long;
+  few = few;
+  free = free_beyond places next (number - 1) (Some x) (omega (arith, is.first, at)) (free_further places used next more table.free);
+}
+
+-- a place gets free
+pub table_emptied : {X : Type 0} (places : List (Option X)) (used i : ℕ) → IsTable used places → IsTable used (set places i None)
+table_emptied places used i table = record {
+  long = length-set places i None ∙ table.long;
+  few = table.few;
+  free = free_emptied places used i table.free;
+}
+
+-- places that show the same as others
+pub table_same : (used : ℕ) (one other : Places) → IsTable used other → map shown one ≡ map shown other → IsTable used one
+table_same used one other table same = record {
+  long = same_long one other same ∙ table.long;
+  few = table.few;
+  free = free_shown shown refl used one other same table.free;
+}
+
+-- those into which messages are pushed
+pub table_pushed : (limit used : ℕ) (one other : Places) → IsTable used other → map shown one ≡ map (pushed_at limit) other → IsTable used one
+table_pushed limit used one other table same = record {
+  long = pushed_long limit one other same ∙ table.long;
+  few = table.few;
+  free = free_shown (pushed_at limit) refl used one other same table.free;
+}
+
+-- and those without what was staged
+pub table_unstaged : (used : ℕ) (one other : Places) → IsTable used other → one ≡ map unstaged_at other → IsTable used one
+table_unstaged used one other table same = record {
+  long = made_long unstaged_at one other same ∙ table.long;
+  few = table.few;
+  free = subst (λ (places : Places). AreFreeFrom used places) (sym same) (unstaged_free used other table.free);
+}
+
 -- ---- one place after another
 
 -- a free place more
@@ -291,20 +394,28 @@ pub record AreMade {S : Type 0} (see make : Option HeldSearch → S) (n : ℕ) (
 pub none_made : {S : Type 0} (see make : Option HeldSearch → S) (places : Places) → AreMade see make 0 places places
 none_made see make places = record { done = refl; rest = refl; long = refl }
 
--- after the last one all are
-pub all_made : {S : Type 0} (see make : Option HeldSearch → S) (n : ℕ) (old new : Places) → AreMade see make n old new → length old ≤ n → map see new ≡ map make old
-all_made see make n old new are all =
-    ap (map see) (sym (take_all new n (omega (arith, are.long, all)))) ∙ are.done ∙ ap (map make) (take_all old n all)
+-- after the last one in use all are, where nothing is made of a free one
+pub used_made : {S : Type 0} (see make : Option HeldSearch → S) (used n : ℕ) (old new : Places) → see None ≡ make None → AreMade see make n old new → used ≤ n → IsTable used old → map see new ≡ map make old
+used_made see make used n old new none are all table = by n old new are.done are.rest are.long (free_further old used n all table.free)
   where
-    take_all : (xs : Places) (k : ℕ) → length xs ≤ k → take k xs ≡ xs
-    take_all [] zero low = refl
-    take_all [] (suc k) low = refl
-    take_all (x ∷ xs) zero low = absurd (omega arith)
-    take_all (x ∷ xs) (suc k) low = ap (λ l. x ∷ l) (take_all xs k (omega arith))
+    none_of : (places : Places) → AreFree places → map see places ≡ map make places
+    none_of [] h = refl
+    none_of (None ∷ places) h = λ i. none i ∷ none_of places h i
+    none_of (Some held ∷ places) h = absurd h
+
+    by : (k : ℕ) (was now : Places) → map see (take k now) ≡ map make (take k was) → drop k now ≡ drop k was → length now ≡ length was → AreFreeFrom k was → map see now ≡ map make was
+    by zero was now done rest long h = ap (map see) rest ∙ none_of was h
+    by (suc k) [] [] done rest long h = refl
+    by (suc k) [] (y ∷ now) done rest long h = absurd (omega (arith, long))
+    by (suc k) (x ∷ was) [] done rest long h = absurd (omega (arith, long))
+    by (suc k) (x ∷ was) (y ∷ now) done rest long h =
+        let head : see y ≡ make x = ap (λ ss. get_or ss 0 (see y)) done in
+        let tail = by k was now (ap (drop 1) done) rest (omega (arith, long)) h in
+        λ i. head i ∷ tail i
 
 -- all of them as they are
-pub all_whole : (make : Option HeldSearch → Option HeldSearch) (n : ℕ) (old new : Places) → AreMade (λ place. place) make n old new → length old ≤ n → new ≡ map make old
-all_whole make n old new are all = sym (map-id new) ∙ all_made (λ place. place) make n old new are all
+pub used_whole : (make : Option HeldSearch → Option HeldSearch) (used n : ℕ) (old new : Places) → make None ≡ None → AreMade (λ place. place) make n old new → used ≤ n → IsTable used old → new ≡ map make old
+used_whole make used n old new none are all table = sym (map-id new) ∙ used_made (λ place. place) make used n old new (sym none) are all table
 
 make_next : {S : Type 0} (see make : Option HeldSearch → S) (i : ℕ) (old new : Places) (was now : Option HeldSearch) → i < length old → AreMade see make i old new → was ≡ get_or new i was → see now ≡ make was
     → AreMade see make (suc i) old (set new i now)

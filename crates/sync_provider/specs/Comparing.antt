@@ -1,28 +1,20 @@
 -- What a comparison answers (RFC 4511, section 4.10).
-use Rattle.std.specs.Prelude.{ℕ, Bool, false, ◌==◌, if◌then◌else◌, List, find, Option, Some, None, bytes_eq}
+use Rattle.std.specs.Prelude.{ℕ, ◌==◌, if◌then◌else◌, List, find, Option, Some, None}
 use Rattle.std.specs.List.{list_any}
 use Rattle.ldap_constants.specs.declared.result_codes.TheConstants.{COMPARE_FALSE, COMPARE_TRUE, INVALID_ATTRIBUTE_SYNTAX, NO_SUCH_ATTRIBUTE, NO_SUCH_OBJECT, UNDEFINED_ATTRIBUTE_TYPE}
-use Rattle.schema_rules.specs.Keys.{key_of}
+use Rattle.schema_rules.specs.Keys.{has_key, key_of}
 use Rattle.schema_rules.specs.Schema.{type_named, is_operational}
 use Rattle.schema_rules.specs.declared.attributes.Attribute.{Attribute}
 use Rattle.dn_names.specs.Names.{TypeAndValue}
 use Rattle.entry_tree.specs.State.{entry_named}
 use Rattle.entry_tree.specs.declared.entry.Entry.{Entry}
 
--- a value whose key, if it has one, is this key
-abbrev pub has_key : List ℕ → Option (List ℕ) → Bool
-has_key key None = false
-has_key key (Some other) = bytes_eq key other
-
--- a value of the type matches one with this key (section 4.1.8: the type's equality rule)
-abbrev pub matches : ℕ → List ℕ → List ℕ → Bool
-matches kind key value = has_key key (key_of kind value)
-
--- noSuchAttribute where there is no attribute of the type
+-- noSuchAttribute where there is no attribute of the type, else whether a value of it matches the
+-- one with this key (section 4.1.8: the type's equality rule)
 abbrev pub attribute_code : ℕ → List ℕ → Option Attribute → ℕ
 attribute_code kind key None = NO_SUCH_ATTRIBUTE
 attribute_code kind key (Some a) =
-    if list_any (matches kind key) a.values then COMPARE_TRUE else COMPARE_FALSE
+    if list_any (has_key kind key) a.values then COMPARE_TRUE else COMPARE_FALSE
 
 -- before that invalidAttributeSyntax where the value has no key
 abbrev pub key_code : List Attribute → ℕ → Option (List ℕ) → ℕ

@@ -1,5 +1,5 @@
 -- The places of open searches, of which the first is that of the number 1.
-use Rattle.std.specs.Prelude.{◌≡◌, ⊤, ℕ, suc, ◌<◌, ◌≤◌, ◌⊎◌, List, [], ◌∷◌, Option, Some, None, option_map}
+use Rattle.std.specs.Prelude.{◌≡◌, ⊤, ℕ, suc, ◌<◌, ◌≤◌, ◌⊎◌, List, [], ◌∷◌, length, drop, Option, Some, None, option_map}
 use Rattle.std.specs.BTreeMap.{insert_entry, is_at}
 use Rattle.std.specs.Map.{lookup, remove_entry}
 use Rattle.std.specs.Ordering.{nat_cmp}
@@ -22,6 +22,22 @@ abbrev pub placed_from : {X : Type 0} → ℕ → List (Option X) → List (ℕ 
 placed_from number [] = []
 placed_from number (None ∷ places) = placed_from (suc number) places
 placed_from number (Some held ∷ places) = (number, held) ∷ placed_from (suc number) places
+
+-- no place has a search
+abbrev pub AreFree : {X : Type 0} → List (Option X) → Type 0
+AreFree [] = ⊤
+AreFree (None ∷ places) = AreFree places
+AreFree (Some held ∷ places) = ⊥
+
+-- and none after the first n
+abbrev pub AreFreeFrom : {X : Type 0} → ℕ → List (Option X) → Type 0
+AreFreeFrom n places = AreFree (drop n places)
+
+-- there is a place for each number, and those after the first n are free
+pub record IsTable {X : Type 0} (used : ℕ) (places : List (Option X)) : Type 0 where
+  pub long : length places ≡ 64
+  pub few : used ≤ 64
+  pub free : AreFreeFrom used places
 
 -- the numbers ascend, from the first on
 abbrev pub Ascends : {X : Type 0} → ℕ → List (ℕ × X) → Type 0

@@ -1,7 +1,6 @@
 //! How a provider compares a value (RFC 4511, section 4.10).
 
 ghost use Rattle.std.specs.Prelude.{◌≡◌, ◌≢◌, ◌==◌, find, IfOk};
-ghost use Rattle.std.specs.List.{list_any};
 ghost use Rattle.std.specs.Option.{option_copied};
 ghost use Rattle.directory_writes.specs.Directory as directory;
 ghost use Rattle.ldap_constants.specs.declared.result_codes.TheConstants as codes;
@@ -10,12 +9,11 @@ ghost use Rattle.sync_provider.specs.Comparing as comparing;
 use crate::NoMemory;
 use crate::sync_directory::SyncDirectory;
 use dn_names::Dn;
-use ldap_ber::Octets;
 use ldap_constants::{
     COMPARE_FALSE, COMPARE_TRUE, INVALID_ATTRIBUTE_SYNTAX, NO_SUCH_ATTRIBUTE, NO_SUCH_OBJECT,
     OTHER, UNDEFINED_ATTRIBUTE_TYPE,
 };
-use schema_rules::{Attribute, AttributeType, known_key};
+use schema_rules::{Attribute, AttributeType, any_has_key, known_key};
 use std::alloc::Global;
 
 impl SyncDirectory {
@@ -71,7 +69,7 @@ fn code_of_value(
     let Some(attribute) = attribute_of(attributes, kind) else {
         return Ok(NO_SUCH_ATTRIBUTE);
     };
-    if any_matches(alloc, kind, &key, attribute.values.list())? {
+    if any_has_key(alloc, kind, key.as_slice(), attribute.values.list())? {
         Ok(COMPARE_TRUE)
     } else {
         Ok(COMPARE_FALSE)
@@ -83,37 +81,4 @@ fn attribute_of(attributes: &[Attribute], kind: AttributeType) -> Option<&Attrib
     ensures { option_copied result ≡ find (λ a. a.kind == kind) attributes.now }
 {
     attributes.iter().find(|attribute| attribute.kind == kind)
-}
-
-/// Whether some value has the key.
-fn any_matches(
-    alloc: Global,
-    kind: AttributeType,
-    key: &Octets,
-    values: &[Octets],
-) -> Result<bool, NoMemory>
-    ensures { IfOk result (λ found.
-        found ≡ list_any (comparing.matches kind key.now) values.now) }
-{
-    for value in values {
-        if matches(alloc, kind, key, value)? {
-            return Ok(true);
-        }
-    }
-    Ok(false)
-}
-
-/// Whether the value has the key.
-fn matches(
-    alloc: Global,
-    kind: AttributeType,
-    key: &Octets,
-    value: &Octets,
-) -> Result<bool, NoMemory>
-    ensures { IfOk result (λ found. found ≡ comparing.matches kind key.now value.now) }
-{
-    match known_key(alloc, kind, value.as_slice())? {
-        None => Ok(false),
-        Some(other) => Ok(*key == other),
-    }
 }

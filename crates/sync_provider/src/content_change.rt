@@ -7,7 +7,6 @@ use dn_names::Dn;
 use entry_tree::Entry;
 
 /// What a write changes in what a search selects (RFC 4533, section 3.4).
-#[derive(Drop)]
 pub(crate) enum ContentChange {
     /// The entry entered it.
     Added(Entry),
@@ -15,6 +14,17 @@ pub(crate) enum ContentChange {
     Modified(Entry),
     /// The entry of this identity left it. It had this name.
     Deleted(u128, Dn),
+}
+
+/// A call of its own, so that what drops a change is one step, whatever became of the entry.
+impl Drop for ContentChange {
+    fn drop(self) {
+        match self {
+            ContentChange::Added(_entry) => {}
+            ContentChange::Modified(_entry) => {}
+            ContentChange::Deleted(_, _dn) => {}
+        }
+    }
 }
 
 impl ContentChange {

@@ -5,7 +5,7 @@ ghost use Rattle.std.specs.BTreeMap.{insert_entry, is_at};
 ghost use Rattle.std.specs.Map.{lookup, remove_entry, set_value};
 ghost use Rattle.std.specs.Ordering.{nat_cmp};
 ghost use Rattle.csn_cookie.specs.Cookie.{cookie_text};
-ghost use Rattle.sync_provider.specs.Placing.{ComesBack, HasNoPlace, IsSearchNumber, put_back, pushed_at, shown, staged_at, unstaged_at};
+ghost use Rattle.sync_provider.specs.Placing.{ComesBack, HasNoPlace, IsSearchNumber, IsTable, put_back, pushed_at, shown, staged_at, unstaged_at};
 ghost use Rattle.sync_provider.specs.Staging.{HeldSearch, searches_of, each_pushed, each_staged, each_unstaged};
 
 use crate::NoMemory;
@@ -25,13 +25,16 @@ pub(crate) const MOST_SEARCHES: u64 = 64;
 #[derive(Drop)]
 pub(crate) struct SearchTable {
     places: Vec<Option<OpenSearch>>,
+    /// How many places, the first ones, may have had a search. Each place after them is free, so
+    /// that what is done to each search looks at no more places than these.
+    used: usize,
 }
 
 impl Model for SearchTable {
-    ghost use Rattle.std.specs.Prelude.{◌≡◌, List, ℕ, length};
+    ghost use Rattle.std.specs.Prelude.{List, ℕ};
     ghost use Rattle.std.specs.Coded.{codes};
     ghost use Rattle.entry_tree.specs.FilterCode.{tree_code};
-    ghost use Rattle.sync_provider.specs.Placing.{placed_from};
+    ghost use Rattle.sync_provider.specs.Placing.{placed_from, IsTable};
     ghost use Rattle.sync_provider.specs.Staging.{HeldSearch};
 
     ghost Value = { List (ℕ × HeldSearch) };
@@ -40,7 +43,7 @@ impl Model for SearchTable {
 
     ghost view = { λ t. placed_from 1 t.places.items };
 
-    ghost invariant = { λ t. length t.places.items ≡ 64 };
+    ghost invariant = { λ t. IsTable t.used t.places.items };
 }
 
 impl SearchTable {
@@ -53,7 +56,7 @@ impl SearchTable {
         for _free in 0..MOST_SEARCHES {
             places.push(None)?;
         }
-        Ok(SearchTable { places })
+        Ok(SearchTable { places, used: 0 })
     }
 
     /// How many searches it has room for.
@@ -108,11 +111,13 @@ impl SearchTable {
         requires { IsSearchNumber number }
         ensures { self.new ≡ insert_entry nat_cmp self.old number search }
     {
+        let used = used_with(self.used, number as usize);
+        self.used = used;
         self.places[number as usize - 1] = Some(search);
     }
 
     /// Takes the search out of the place of this number.
-    #[tactic(auto, using(crate::proofs::Tables::none_at, crate::proofs::Tables::found_at, crate::proofs::Tables::emptied, crate::proofs::Tables::nothing_there, crate::proofs::Tables::closed_none, crate::proofs::Tables::put_again_at, crate::proofs::Tables::gone_of))]
+    #[tactic(auto, using(crate::proofs::Tables::none_at, crate::proofs::Tables::found_at, crate::proofs::Tables::emptied, crate::proofs::Tables::nothing_there, crate::proofs::Tables::closed_none, crate::proofs::Tables::put_again_at, crate::proofs::Tables::gone_of, crate::proofs::Tables::table_emptied))]
     pub(crate) fn remove(&mut self, number: u64) -> Option<OpenSearch>
         ensures value { result ≡ lookup (is_at (nat_cmp number)) self.old }
         ensures entries { self.new ≡ remove_entry (is_at (nat_cmp number)) self.old }
@@ -143,17 +148,16 @@ impl SearchTable {
     }
 
     /// Drops what is staged for each search.
-    #[tactic(auto, using(crate::proofs::Tables::made_long))]
     pub(crate) fn unstage_each(&mut self)
         ensures searches { searches_of self.new ≡ searches_of self.old }
         ensures unstaged { self.new ≡ each_unstaged self.old }
     {
-        unstage_places(&mut self.places);
+        unstage_places(&mut self.places, self.used);
     }
 
     /// Makes the messages of a write with these touches and this cookie for each search, after
     /// those that are staged.
-    #[tactic(auto, using(crate::proofs::Tables::same_seen, crate::proofs::Tables::same_long))]
+    #[tactic(auto, using(crate::proofs::Tables::same_seen))]
     pub(crate) fn stage_each(
         &mut self,
         touched: &[EntryChange],
@@ -165,16 +169,25 @@ impl SearchTable {
         ensures staged { OnOk result
             (self.new ≡ each_staged touched.now (cookie_text cookie) self.old) }
     {
-        stage_places(&mut self.places, touched, &cookie)
+        stage_places(&mut self.places, self.used, touched, &cookie)
     }
 
     /// Puts what was made into the searches, each of which may keep n messages or identities.
-    #[tactic(auto, using(crate::proofs::Tables::each_seen_pushed, crate::proofs::Tables::pushed_long))]
+    #[tactic(auto, using(crate::proofs::Tables::each_seen_pushed))]
     pub(crate) fn push_each(&mut self, limit: u64)
         ensures { searches_of self.new ≡ each_pushed limit self.old }
     {
-        push_places(&mut self.places, limit);
+        push_places(&mut self.places, self.used, limit);
     }
+}
+
+/// How many places are in use with the one of this number.
+fn used_with(used: usize, number: usize) -> usize
+    ensures before { used ≤ result }
+    ensures own { number ≤ result }
+    ensures few { used ≤ 64 → number ≤ 64 → result ≤ 64 }
+{
+    if used < number { number } else { used }
 }
 
 /// The place of this number, where it has one.
@@ -192,40 +205,44 @@ fn place_of(number: u64) -> Option<usize>
 }
 
 /// Drops what is staged for the search of each place.
-#[tactic(auto, using(crate::proofs::Tables::none_made, crate::proofs::Tables::all_whole))]
-fn unstage_places(places: &mut Vec<Option<OpenSearch>>)
+#[tactic(auto, using(crate::proofs::Tables::none_made))]
+fn unstage_places(places: &mut Vec<Option<OpenSearch>>, used: usize)
+    requires { IsTable used places.old.items }
     ensures { places.new.items ≡ map unstaged_at places.old.items }
 {
-    for place in 0..places.len() {
+    for place in 0..used {
         unstage_at(&mut places[place]);
     }
 }
 
 /// Makes the messages of a write for the search of each place.
-#[tactic(auto, using(crate::proofs::Tables::set_shown, crate::proofs::Tables::none_made, crate::proofs::Tables::all_whole))]
+#[tactic(auto, using(crate::proofs::Tables::set_shown, crate::proofs::Tables::none_made))]
 fn stage_places(
     places: &mut Vec<Option<OpenSearch>>,
+    used: usize,
     touched: &[EntryChange],
     cookie: &Cookie,
 ) -> Result<(), NoMemory>
+    requires table { IsTable used places.old.items }
     requires rid { cookie.now.rid < 1000 }
     requires sid { cookie.now.sid < 4096 }
     ensures searches { map shown places.new.items ≡ map shown places.old.items }
     ensures staged { OnOk result (places.new.items
         ≡ map (staged_at touched.now (cookie_text cookie.now)) places.old.items) }
 {
-    for place in 0..places.len() {
+    for place in 0..used {
         stage_at(&mut places[place], touched, cookie)?;
     }
     Ok(())
 }
 
 /// Puts what was made into the search of each place.
-#[tactic(auto, using(crate::proofs::Tables::none_made, crate::proofs::Tables::all_made))]
-fn push_places(places: &mut Vec<Option<OpenSearch>>, limit: u64)
+#[tactic(auto, using(crate::proofs::Tables::none_made))]
+fn push_places(places: &mut Vec<Option<OpenSearch>>, used: usize, limit: u64)
+    requires { IsTable used places.old.items }
     ensures { map shown places.new.items ≡ map (pushed_at limit) places.old.items }
 {
-    for place in 0..places.len() {
+    for place in 0..used {
         push_at(&mut places[place], limit);
     }
 }

@@ -6,6 +6,7 @@ ghost use Rattle.ldap_ber.specs.Gives.{Gives};
 ghost use Rattle.sync_wire.specs.Refusals.{DecodeFails, on_ok};
 
 use crate::fault::DecodeFault;
+use crate::known_names::{KnownNames, NoNames};
 use crate::operational::check_uuid;
 use crate::values::{sync_done, sync_info, sync_state};
 use crate::wire_entry::entry_of;
@@ -59,11 +60,25 @@ pub fn decode(alloc: Global, message: &Message, persisting: bool) -> Result<Sync
     ensures { Gives DecodeFails (λ h. Ok h) result
         (on_ok spec.decoded_of (spec.said persisting message.now)) }
 {
+    decode_beside(alloc, message, persisting, &NoNames)
+}
+
+/// The same. An entry shares the RDNs of the name that is known of its identity where it is sent
+/// with the text of that name, which is not read again then.
+pub fn decode_beside<N: KnownNames>(
+    alloc: Global,
+    message: &Message,
+    persisting: bool,
+    names: &N,
+) -> Result<SyncEvent, DecodeFault>
+    ensures { Gives DecodeFails (λ h. Ok h) result
+        (on_ok spec.decoded_of (spec.said persisting message.now)) }
+{
     let controls = message.controls.list();
     match &message.op {
         Protocol::SearchResultEntry { name, attributes } => {
             let state = sync_state(alloc, controls)?;
-            entry_decoded(alloc, persisting, state, name, attributes.list())
+            entry_decoded(alloc, persisting, state, name, attributes.list(), names)
         }
         Protocol::SearchResultReference(_) => Ok(SyncEvent::Ignored),
         Protocol::IntermediateResponse { name, value } => response_decoded(alloc, name, value),
@@ -92,12 +107,13 @@ pub fn decode(alloc: Global, message: &Message, persisting: bool) -> Result<Sync
 }
 
 /// What an entry with this Sync State control says.
-fn entry_decoded(
+fn entry_decoded<N: KnownNames>(
     alloc: Global,
     persisting: bool,
     state: SyncState,
     name: &Octets,
     raws: &[RawAttribute],
+    names: &N,
 ) -> Result<SyncEvent, DecodeFault>
     ensures { Gives DecodeFails (λ h. Ok h) result
         (on_ok spec.decoded_of (spec.entry_said persisting name.now raws.now state)) }
@@ -109,7 +125,7 @@ fn entry_decoded(
     let are_uuids = check_uuid(raws, uuid)?;
     match state.state {
         State::Add | State::Modify => {
-            let entry = entry_of(alloc, uuid, name, raws, are_uuids)?;
+            let entry = entry_of(alloc, uuid, name, names.name_of(uuid), raws, are_uuids)?;
             Ok(SyncEvent::AddOrModify(entry, state.cookie))
         }
         State::Delete => Ok(SyncEvent::Delete(uuid, state.cookie)),

@@ -5,6 +5,7 @@
 mod decoding;
 mod fault;
 mod kind;
+mod known_names;
 mod laws;
 mod operational;
 mod request;
@@ -12,9 +13,10 @@ mod sending;
 mod values;
 mod wire_entry;
 
-pub use decoding::{SyncEvent, decode};
+pub use decoding::{SyncEvent, decode, decode_beside};
 pub use fault::DecodeFault;
 pub use kind::tag_of;
+pub use known_names::KnownNames;
 pub use laws::sent_is_decoded;
 pub use ldap_ber::NoMemory;
 pub use request::search_request;

@@ -1,8 +1,9 @@
 //! Entries as they are sent.
 
-ghost use Rattle.std.specs.Prelude.{◌≡◌, [], ◌∷◌, Ok, IfOk};
+ghost use Rattle.std.specs.Prelude.{◌≡◌, [], ◌∷◌, Ok, IfOk, IfErr};
 ghost use Rattle.std.specs.List.{list_all};
 ghost use Rattle.schema_rules.specs.Schema.{type_rule};
+ghost use Rattle.dn_names.specs.Reading.{name_of_text, IsNameFault};
 ghost use Rattle.ldap_ber.specs.Gives.{Gives};
 ghost use Rattle.sync_wire.specs.Refusals.{DecodeFails};
 ghost use Rattle.sync_wire.specs.WireEntry as spec;
@@ -23,18 +24,19 @@ use std::slice;
 const MOST_ENTRY_WEIGHT: u64 = 65_536;
 
 /// The entry of an identity that was sent with this name and these attributes, of which it is known
-/// whether each entryUUID is the text of an identity.
+/// whether each entryUUID is the text of an identity. A name that is known may be the same one.
 pub(crate) fn entry_of(
     alloc: Global,
     uuid: u128,
     name: &Octets,
+    known: Option<&Dn>,
     raws: &[RawAttribute],
     are_uuids: bool,
 ) -> Result<Entry, DecodeFault>
     requires { are_uuids ≡ spec.are_uuids raws.now }
     ensures { Gives DecodeFails (λ entry. Ok entry) result (spec.entry_of uuid name.now raws.now) }
 {
-    let dn = name_of(alloc, name)?;
+    let dn = name_of(alloc, name, known)?;
     let attrs = attributes_of(alloc, raws)?;
     if !are_uuids || !are_of_their_syntax(alloc, attrs.list())? {
         return Err(DecodeFault::BadEntry(INVALID_ATTRIBUTE_SYNTAX));
@@ -51,15 +53,26 @@ pub(crate) fn entry_of(
     })
 }
 
-fn name_of(alloc: Global, text: &Octets) -> Result<Dn, DecodeFault>
+fn name_of(alloc: Global, text: &Octets, known: Option<&Dn>) -> Result<Dn, DecodeFault>
     ensures { Gives DecodeFails (λ dn. Ok dn) result (spec.name_of text.now) }
 {
-    match Dn::parse(alloc, text.as_slice()) {
+    match read_name(alloc, text.as_slice(), known) {
         Ok(dn) => Ok(dn),
         Err(NameFault::NoMemory) => Err(DecodeFault::NoMemory),
         Err(NameFault::BadName(_) | NameFault::UnknownType(_) | NameFault::TooLong(_)) => {
             Err(DecodeFault::BadEntry(INVALID_DN_SYNTAX))
         }
+    }
+}
+
+/// Reads a name, beside one that is known, if any.
+fn read_name(alloc: Global, text: &[u8], known: Option<&Dn>) -> Result<Dn, NameFault>
+    ensures ok { IfOk result (λ dn. name_of_text text.now ≡ Ok dn) }
+    ensures fault { IfErr result (IsNameFault (name_of_text text.now)) }
+{
+    match known {
+        Some(dn) => Dn::parse_beside(alloc, text, dn),
+        None => Dn::parse(alloc, text),
     }
 }
 

@@ -104,6 +104,18 @@ const COMPARED: [Row; 12] = [
     ("ou=a,ou=b|ou=a+ou=b", "(false, false, false, false)"),
 ];
 
+/// A name that is known, and a text that is read beside it: how the name of the text is written, or
+/// why it is refused.
+const BESIDE: [Row; 7] = [
+    ("uid=a,dc=x|uid=a,dc=x", "uid=a,dc=x"),
+    ("uid=a,dc=x|uid=b,dc=x", "uid=b,dc=x"),
+    ("uid=a,dc=x|UID=A,dc=X", "uid=A,dc=X"),
+    (r"ou=a\,b|ou=a\2cb", r"ou=a\,b"),
+    ("|dc=x", "dc=x"),
+    ("dc=x|", ""),
+    ("uid=a,dc=x|uid=a;dc=x", "BadName(0)"),
+];
+
 /// The first RDN of a name: how it is written, how many pairs its copy has, and the key of the
 /// first.
 const RDNS: [Row; 1] = [("CN=e + l=b", r#"("cn=e+l=b", 2, "e")"#)];
@@ -151,6 +163,7 @@ fn names(rt: HostRuntime) {
     check_rows(&rt, rt.alloc(), "fault", &REFUSED);
     check_rows(&rt, rt.alloc(), "long", &LONG);
     check_rows(&rt, rt.alloc(), "compared", &COMPARED);
+    check_rows(&rt, rt.alloc(), "beside", &BESIDE);
     check_rows(&rt, rt.alloc(), "path", &PATHS);
     check_rows(&rt, rt.alloc(), "rdn", &RDNS);
     check_rows(&rt, rt.alloc(), "built", &BUILT);
@@ -169,6 +182,7 @@ fn reported(alloc: Global, word: &str, text: &str) -> Result<String, NameFault> 
         "written" => rewritten(alloc, text),
         "long" => long(alloc, text),
         "compared" => compared(alloc, text),
+        "beside" => beside(alloc, text),
         "path" => path(alloc, text),
         "rdn" => rdn(alloc, text),
         "built" => built(alloc, text),
@@ -220,6 +234,13 @@ fn relation(alloc: Global, name: &Dn, base: &Dn) -> Result<String, NoMemory> {
     let has_key = name.key()? == base.key()?;
     let (is_same, is_below) = (name.same(base), name.is_at_or_below(base));
     shown(alloc, &(is_same, is_below, name.is_child_of(base), has_key))
+}
+
+fn beside(alloc: Global, text: &str) -> Result<String, NameFault> {
+    let (known, text) = parted(text);
+    let known = Dn::parse(alloc, known.as_bytes())?;
+    let name = Dn::parse_beside(alloc, text.as_bytes(), &known)?;
+    Ok(utf8(name.write()?.as_slice()).to_string(alloc)?)
 }
 
 /// The path key of a name, and whether the one that it lends is the same.

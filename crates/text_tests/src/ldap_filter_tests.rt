@@ -142,8 +142,12 @@ const ENTRY: &str = "cn=Ann  Lee|cn=bab|uidNumber=7|gidNumber=-12|syncActive=TRU
 
 /// Numbers go by number, times by text, and text has no order. Pieces stand in order and without
 /// overlap.
-const TRUTHS: [Row; 50] = [
+const TRUTHS: [Row; 54] = [
     ("(cn=ann lee)", "True"),
+    ("(cn=BAB)", "True"),
+    ("(cn=ba)", "False"),
+    ("(mail=A@X)", "True"),
+    ("(memberUid=x)", "True"),
     ("(cn=*N L*)", "True"),
     ("(uidNumber>=7)", "True"),
     ("(syncActive=TRUE)", "True"),

@@ -3,7 +3,7 @@ use crate::assertions::assert_same;
 use ldap_ber::{NoMemory, Octets, OctetsList, discard};
 use schema_rules::{
     Attribute, AttributeType, Attrs, RawAttribute, RawList, Rule, SchemaFault, add_values,
-    are_of_syntax, check_entry, key_of, keys_of, known_key,
+    are_of_syntax, check_entry, has_key, key_of, keys_of, known_key,
 };
 use std::alloc::{AllocError, Global};
 use std::process::Abort;
@@ -170,6 +170,31 @@ fn keys_of_values(rt: HostRuntime) {
         check_key(&rt, rt.alloc(), name, values[1], wanted);
         let values = octets_of(rt.alloc(), values).expect(&rt, name);
         check_keys(&rt, rt.alloc(), name, values.list(), wanted);
+    }
+}
+
+/// Types, values and keys, and whether the value has the key.
+const HAVING: [(&str, &[u8], &[u8], bool); 12] = [
+    ("objectClass", b"inetOrgPerson", b"inetorgperson", true),
+    ("objectClass", b"Person", b"Person", false),
+    ("objectClass", b"person", b"top", false),
+    ("objectClass", b"thing", b"thing", false),
+    ("cn", b"Ann  Lee", b"ann lee", true),
+    ("cn", b"Ann  Lee", b"Ann  Lee", false),
+    ("cn", b"bab", b"bab", true),
+    ("cn", b"bab", b"ba", false),
+    ("memberUid", b"x", b"x", true),
+    ("memberUid", b"X", b"x", false),
+    ("uidNumber", b"07", b"7", false),
+    ("entryCSN", b"1", b"1", false),
+];
+
+#[test]
+fn values_with_keys(rt: HostRuntime) {
+    for (name, value, key, wanted) in &HAVING {
+        let kind = AttributeType::find(name.as_bytes()).expect(&rt, name);
+        let has = has_key(rt.alloc(), kind, key, value).expect(&rt, name);
+        assert_same(&rt, name, &has, wanted);
     }
 }
 

@@ -1,8 +1,12 @@
 -- One more number, which is no less than what is gone of it, and no greater than may be.
-use Rattle.std.proofs.Common.{◌≡◌, ◌+◌, arith}
+use Rattle.std.proofs.Common.{◌≡◌, ◌+◌, ◌∙◌, ap, sym, arith}
 use Rattle.std.specs.Prelude.{slice_index}
-use Rattle.entry_tree.proofs.Counting.{set_more}
+use Rattle.entry_tree.proofs.Counting.{same_strays, set_more}
 use Rattle.entry_tree.proofs.strays.strays_with.Goals as goal
+
+pub returns-then-all_keep_types : goal.returns-then-all_keep_types
+returns-then-all_keep_types c = λ kind low.
+    ap (λ n. slice_index c.args.strays.now kind + n) (same_strays kind c.args.changes.now (sym c.all_keep_types.ensures ∙ c.if-all_keep_types.true))
 
 pub overflow_sub-kept : goal.overflow_sub-kept
 overflow_sub-kept c =

@@ -1,4 +1,4 @@
-use Rattle.std.proofs.Common.{◌≡◌, ap, map, refl, rules, set, ◌∙◌}
+use Rattle.std.proofs.Common.{◌≡◌, ap, map, refl, set, ◌∙◌}
 use Rattle.turn_cell.specs.Passes.{cell_of, view_of}
 use Rattle.shared_directory.specs.Passes.{directory_id}
 use Rattle.ldap_listener.specs.Seats.{busy}
@@ -11,12 +11,11 @@ use Rattle.ldap_listener.proofs.Rows.{there-free, twice}
 use Rattle.ldap_listener.proofs.accepting.accept_one.Goals as goal
 
 pub start-requires-clause-pass : goal.start-requires-clause-pass
-start-requires-clause-pass g c =
+start-requires-clause-pass g c κs within =
     let seat = c.wait_for_seat-place.ensures in
     let place = c.wait_for_seat-place.result in
     let there = there-free c.wait_for_seat-place.new.seats place _ _ _ _ seat.place c.replace.ensures.value (ap seat_of c.in-Free.is) in
-    let ours = free-seated _ _ _ _ _ there seat.keeps.accounts.order.seated in
-    search rules
+    free-seated _ _ _ _ _ there seat.keeps.accounts.order.seated
 
 -- ---- no link came
 

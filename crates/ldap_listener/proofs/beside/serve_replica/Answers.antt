@@ -1,4 +1,4 @@
-use Rattle.std.proofs.Common.{arith, map, rules}
+use Rattle.std.proofs.Common.{arith, map}
 use Rattle.std.proofs.lemmas.List.{length-map}
 use Rattle.ldap_listener.specs.SeatsOfCode.{seat_of}
 use Rattle.ldap_listener.specs.Sessions.{seen_by}
@@ -7,23 +7,18 @@ use Rattle.ldap_listener.proofs.Opening.{first-order}
 use Rattle.ldap_listener.proofs.beside.serve_replica.Goals as goal
 
 pub serve_beside-accepted-requires-clause-order : goal.serve_beside-accepted-requires-clause-order
-serve_beside-accepted-requires-clause-order g c =
+serve_beside-accepted-requires-clause-order g c κs within =
     let opened = c.in-Ok-open_beside.ensures in
-    let order = first-order _ _ c.args.provider _ _ opened.seated opened.first (g.met.N.Net.links_within c.args.net.now) in
-    search rules
+    first-order _ _ c.args.provider _ _ opened.seated opened.first (g.met.N.Net.links_within c.args.net.now)
 
 pub serve_beside-accepted-requires-clause-pass : goal.serve_beside-accepted-requires-clause-pass
-serve_beside-accepted-requires-clause-pass g c =
-    let pass = c.in-Ok-open_beside.ensures.pass_is in
-    search rules
+serve_beside-accepted-requires-clause-pass g c κs within = c.in-Ok-open_beside.ensures.pass_is
 
 pub close_all-provider-requires-clause-seated : goal.close_all-provider-requires-clause-seated
 close_all-provider-requires-clause-seated g c κs within = c.serve_beside-accepted.ensures.serves.accepts.keeps.order.seated
 
 pub close_all-provider-requires-clause-free : goal.close_all-provider-requires-clause-free
-close_all-provider-requires-clause-free g c =
-    let freed = c.serve_beside-accepted.ensures.serves.free in
-    search rules
+close_all-provider-requires-clause-free g c κs within = c.serve_beside-accepted.ensures.serves.free
 
 pub close_all-provider-requires-clause-count : goal.close_all-provider-requires-clause-count
 close_all-provider-requires-clause-count g c =

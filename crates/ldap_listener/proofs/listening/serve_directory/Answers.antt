@@ -1,4 +1,4 @@
-use Rattle.std.proofs.Common.{arith, rules}
+use Rattle.std.proofs.Common.{arith}
 use Rattle.std.proofs.lemmas.List.{length-map}
 use Rattle.ldap_listener.specs.SeatsOfCode.{seat_of}
 use Rattle.ldap_listener.specs.Sessions.{seen_by}
@@ -7,20 +7,15 @@ use Rattle.ldap_listener.proofs.Opening.{first-order}
 use Rattle.ldap_listener.proofs.listening.serve_directory.Goals as goal
 
 pub serve_links-accepted-requires-clause-order : goal.serve_links-accepted-requires-clause-order
-serve_links-accepted-requires-clause-order g c =
+serve_links-accepted-requires-clause-order g c κs within =
     let opened = c.in-Ok-open_seats.ensures in
-    let order = first-order _ _ c.args.provider _ _ opened.seated opened.first (g.met.N.Net.links_within c.args.net.now) in
-    search rules
+    first-order _ _ c.args.provider _ _ opened.seated opened.first (g.met.N.Net.links_within c.args.net.now)
 
 pub close_seats-requires-clause-seated : goal.close_seats-requires-clause-seated
-close_seats-requires-clause-seated g c =
-    let seated = c.serve_links-accepted.ensures.accepts.keeps.order.seated in
-    search rules
+close_seats-requires-clause-seated g c κs within = c.serve_links-accepted.ensures.accepts.keeps.order.seated
 
 pub close_seats-requires-clause-free : goal.close_seats-requires-clause-free
-close_seats-requires-clause-free g c =
-    let freed = c.serve_links-accepted.ensures.free in
-    search rules
+close_seats-requires-clause-free g c κs within = c.serve_links-accepted.ensures.free
 
 pub close_seats-requires-clause-count : goal.close_seats-requires-clause-count
 close_seats-requires-clause-count g c =

@@ -5,8 +5,8 @@ use Rattle.entry_tree.specs.declared.touched.EntryChange.{EntryChange}
 use Rattle.directory_writes.specs.Directory.{DirectoryState, DirectoryWithRoom, with_write}
 use Rattle.directory_writes.specs.Ready.{IsReadyWrite}
 use Rattle.directory_writes.specs.Standing.{StandingState, LeadsTo}
-use Rattle.directory_writes.specs.Touches.{noted_each, uuids_of}
-use Rattle.directory_writes.proofs.Writes.{kept_ready, leads_ready, put_is}
+use Rattle.directory_writes.specs.Touches.{noted_each, renewed, uuids_of}
+use Rattle.directory_writes.proofs.Writes.{kept_ready, leads_ready, numbers_ready, put_is}
 use Rattle.directory_writes.proofs.directory.Directory.install.Goals as goal
 
 pub note_each-requires : goal.note_each-requires
@@ -16,14 +16,23 @@ note_each-requires c =
 pub push_reserved-requires : goal.push_reserved-requires
 push_reserved-requires c = omega (arith, c.requires.room, ap (λ (v : DirectoryWithRoom). v.room) c.self.view_is)
 
-pub keep_previous-requires : goal.keep_previous-requires
-keep_previous-requires c =
+pub keep_previous-requires-clause-leads : goal.keep_previous-requires-clause-leads
+keep_previous-requires-clause-leads c =
     let was = c.self.inside in
     let d : DirectoryState = record { suffix = was.suffix; sid = was.sid; history = was.history; writes = was.accepted.items; log = was.log.log } in
     let ready = c.args.ready in
     let is : IsReadyWrite d c.args.op ready = subst (λ (v : DirectoryWithRoom). IsReadyWrite v.state c.args.op ready) (sym c.self.view_is) c.requires.ready in
     subst (λ (s : StandingState). LeadsTo s.entries ready.preview.touched c.replace-before.new.dest.entries) (sym c.replace-before.ensures.value)
     (subst (λ (s : StandingState). LeadsTo was.standing.entries ready.preview.touched s.entries) (sym c.replace-before.ensures.after) (leads_ready d c.args.op ready was.standing c.self.invariant is))
+
+pub keep_previous-requires-clause-numbers : goal.keep_previous-requires-clause-numbers
+keep_previous-requires-clause-numbers c =
+    let was = c.self.inside in
+    let d : DirectoryState = record { suffix = was.suffix; sid = was.sid; history = was.history; writes = was.accepted.items; log = was.log.log } in
+    let ready = c.args.ready in
+    let is : IsReadyWrite d c.args.op ready = subst (λ (v : DirectoryWithRoom). IsReadyWrite v.state c.args.op ready) (sym c.self.view_is) c.requires.ready in
+    (λ i. renewed (c.is_commit-commits.ensures i) (c.replace-before.ensures.after i).count (c.replace-before.ensures.value i).numbers ready.preview.touched)
+    ∙ numbers_ready d c.args.op ready was.standing c.self.invariant is ∙ sym (ap (λ (s : StandingState). s.numbers) c.replace-before.ensures.after)
 
 pub invariant_of-self : goal.invariant_of-self
 invariant_of-self c =

@@ -3,7 +3,7 @@ use Rattle.std.proofs.Common.{◌+◌, ◌∙◌, ap, sym, arith}
 use Rattle.entry_tree.specs.State.{same_named}
 use Rattle.entry_tree.specs.Touched.{with_changes}
 use Rattle.directory_writes.specs.Standing.{StandingState, standing_after}
-use Rattle.directory_writes.specs.Touches.{renewed}
+use Rattle.directory_writes.specs.Touches.{Numbers, renewed}
 use Rattle.entry_tree.specs.Sound.{is_commit}
 use Rattle.directory_writes.proofs.standing.Standing.after.Goals as goal
 
@@ -23,7 +23,9 @@ returns c =
     let was = c.self.inside in
     let preview = c.args.preview.now in
     let numbers =
-    c.in_ok-numbers.ensures ∙ ap (λ commits. renewed commits (was.count + 1) was.numbers c.list.result.now) c.is_commit-commits.ensures
+    c.in_ok-numbers.ensures
+    ∙ ap (λ (ns : Numbers). renewed c.is_commit-commits.result (was.count + 1) ns c.list.result.now) (c.requires.before ∙ sym (ap (λ (s : StandingState). s.numbers) c.self.view_is))
+    ∙ ap (λ commits. renewed commits (was.count + 1) was.numbers c.list.result.now) c.is_commit-commits.ensures
     ∙ ap (renewed (is_commit c.args.op.now) (was.count + 1) was.numbers) c.list.ensures in
     let entries = c.requires.entries ∙ sym (ap (λ (s : StandingState). with_changes s.entries preview.touched) c.self.view_is) in
     (λ i. record { count = was.count + 1; weight = preview.weight; last = c.copy-csn_maker.ensures i; entries = entries i; numbers = numbers i })

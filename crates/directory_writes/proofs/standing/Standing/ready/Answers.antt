@@ -11,5 +11,8 @@ with_changes-requires c = (subst (λ (s : StandingState). IsNext s c.args.op.now
 pub after-requires-clause-entries : goal.after-requires-clause-entries
 after-requires-clause-entries c = c.in_ok-tree.ensures ∙ ap (λ (s : StandingState). with_changes s.entries c.args.preview.touched) c.self.view_is
 
+pub after-requires-clause-before : goal.after-requires-clause-before
+after-requires-clause-before c = c.in_ok-numbers.ensures ∙ ap (λ (s : StandingState). s.numbers) c.self.view_is
+
 pub returns-clause-after : goal.returns-clause-after
 returns-clause-after c = c.in_ok-after.ensures

@@ -17,5 +17,8 @@ after-requires-clause-entries c =
     c.in_ok-tree.ensures
     ∙ ap (λ (es : List Entry). with_changes es c.args.preview.touched) (c.in_ok-spare.ensures.entries ∙ ap (λ (s : StandingState). s.entries) (sym c.spare.ensures.same))
 
+pub after-requires-clause-before : goal.after-requires-clause-before
+after-requires-clause-before c = c.in_ok-spare.ensures.numbers ∙ ap (λ (s : StandingState). s.numbers) (sym c.spare.ensures.same)
+
 pub returns-clause-after : goal.returns-clause-after
 returns-clause-after c = c.in_ok-after.ensures ∙ ap (λ (s : StandingState). standing_after s c.args.op.now c.args.preview) c.spare.ensures.same

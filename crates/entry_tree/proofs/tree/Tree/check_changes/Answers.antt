@@ -4,6 +4,9 @@ use Rattle.entry_tree.proofs.Clear.{held_clear}
 use Rattle.entry_tree.proofs.Committing.{ascends_committed}
 use Rattle.entry_tree.proofs.tree.Tree.check_changes.Goals as goal
 
+pub is_clear-requires : goal.is_clear-requires
+is_clear-requires c = c.requires.unique_names c.if-unique_names.true
+
 pub returns-then-branch-clause-ok : goal.returns-then-branch-clause-ok
 returns-then-branch-clause-ok c =
     let es = c.args.self.now in

@@ -1,7 +1,0 @@
--- A number is written as the octets that it is read from.
-use Rattle.std.proofs.Common.{rules}
-use Rattle.std.proofs.lemmas.Nat.{le_bytes_8}
-use Rattle.shared_map.proofs.queries.number_of.Goals as goal
-
-pub returns : goal.returns
-returns c = le_bytes_8 c.args.eight _ (search rules) (search rules) c.from_le_bytes.ensures
